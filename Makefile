@@ -1,0 +1,9 @@
+# make run   develops the document's example frame and prints it
+# make test  proves every crate and passes the tests; its last line is 'N passed, M failed'
+.PHONY: run test
+
+run:
+	@CARGO_TARGET_DIR=build/reference cargo run --quiet --release --manifest-path tests/reference/Cargo.toml --bin develop < examples/glaze.bayr
+
+test:
+	@tests/run

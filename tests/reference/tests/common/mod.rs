@@ -1,0 +1,160 @@
+//! What the tests share: numbers drawn from a seed, frames of four kinds, developed planes.
+#![allow(dead_code)] // each test file uses a part
+
+pub mod fraction;
+
+use reference::calls::develop;
+use reference::frame_file::{block_count, check, write, BLOCK};
+use reference::sites::Frame;
+
+/// Numbers that follow from a seed alone.
+pub struct Generator {
+    state: u64,
+}
+
+impl Generator {
+    pub fn new(seed: u64) -> Self {
+        Generator { state: seed }
+    }
+
+    fn next(&mut self) -> u64 {
+        self.state = self.state.wrapping_add(0x9e37_79b9_7f4a_7c15);
+        let mut mixed = self.state;
+        mixed = (mixed ^ (mixed >> 30)).wrapping_mul(0xbf58_476d_1ce4_e5b9);
+        mixed = (mixed ^ (mixed >> 27)).wrapping_mul(0x94d0_49bb_1331_11eb);
+        mixed ^ (mixed >> 31)
+    }
+
+    /// A number from `least` to `greatest`.
+    pub fn between(&mut self, least: i64, greatest: i64) -> i64 {
+        least + (self.next() % (greatest - least + 1) as u64) as i64
+    }
+
+    /// A size or a position from `least` to `greatest`.
+    pub fn size(&mut self, least: usize, greatest: usize) -> usize {
+        self.between(least as i64, greatest as i64) as usize
+    }
+
+    pub fn sample(&mut self) -> u16 {
+        self.between(0, 1023) as u16
+    }
+
+    pub fn one_of<T: Copy>(&mut self, choices: &[T]) -> T {
+        choices[self.size(0, choices.len() - 1)]
+    }
+
+    pub fn numbers(&mut self, count: usize) -> Vec<i32> {
+        let number = || self.between(i32::MIN.into(), i32::MAX.into()) as i32;
+        std::iter::repeat_with(number).take(count).collect()
+    }
+}
+
+#[derive(Clone, Copy, Debug)]
+pub enum Kind {
+    Random,
+    Flat,
+    FewValued,
+    Striped,
+}
+
+pub const KINDS: [Kind; 4] = [Kind::Random, Kind::Flat, Kind::FewValued, Kind::Striped];
+
+/// A few values, near each other, at the ends of the range or anywhere.
+fn few_values(generator: &mut Generator) -> Vec<u16> {
+    let count = generator.size(2, 4);
+    let base = generator.between(0, 1020);
+    match generator.between(0, 2) {
+        0 => (0..count as u16).map(|more| base as u16 + more).collect(),
+        1 => vec![0, 1023],
+        _ => (0..count).map(|_| generator.sample()).collect(),
+    }
+}
+
+/// The samples of a frame of the kind.
+fn samples(generator: &mut Generator, kind: Kind, width: usize, height: usize) -> Vec<u16> {
+    let count = width * height;
+    match kind {
+        Kind::Random => (0..count).map(|_| generator.sample()).collect(),
+        Kind::Flat => vec![generator.sample(); count],
+        Kind::FewValued => {
+            let values = few_values(generator);
+            (0..count).map(|_| generator.one_of(&values)).collect()
+        }
+        Kind::Striped => {
+            let period = generator.size(2, 5);
+            let values: Vec<u16> = (0..period).map(|_| generator.sample()).collect();
+            let (down, along) = generator.one_of(&[(0, 1), (1, 0), (1, 1), (1, 4), (2, 1)]);
+            let stripe = |site: usize| down * (site / width) + along * (site % width);
+            (0..count)
+                .map(|site| values[stripe(site) % period])
+                .collect()
+        }
+    }
+}
+
+/// A frame of the kind with sides from 2 to `greatest_side` and any phase.
+pub fn frame(generator: &mut Generator, kind: Kind, greatest_side: usize) -> Frame {
+    let width = generator.size(2, greatest_side);
+    let height = generator.size(2, greatest_side);
+    frame_of_sides(generator, kind, width, height)
+}
+
+pub fn frame_of_sides(generator: &mut Generator, kind: Kind, width: usize, height: usize) -> Frame {
+    Frame {
+        width,
+        height,
+        phase: generator.size(0, 3),
+        samples: samples(generator, kind, width, height),
+    }
+}
+
+/// The planes that develop fills.
+#[derive(Clone, Debug, PartialEq, Eq)]
+pub struct Developed {
+    pub red: Vec<i32>,
+    pub green: Vec<i32>,
+    pub blue: Vec<i32>,
+}
+
+/// Develops a frame that must be accepted, into buffers that hold something else.
+pub fn developed(frame: &Frame) -> Developed {
+    let count = frame.width * frame.height;
+    let mut planes = Developed {
+        red: vec![-9_999; count],
+        green: vec![-8_888; count],
+        blue: vec![-7_777; count],
+    };
+    let answer = develop(
+        frame.width,
+        frame.height,
+        frame.phase,
+        &frame.samples,
+        &mut planes.red,
+        &mut planes.green,
+        &mut planes.blue,
+        &mut vec![-6_666; 4 * count],
+    );
+    assert_eq!(answer, Ok(()), "{frame:?}");
+    planes
+}
+
+/// The file that the writer makes of a frame, in a buffer that holds something else.
+pub fn written(frame: &Frame) -> Vec<u8> {
+    let mut file = vec![0xa5; block_count(frame.width, frame.height) * BLOCK];
+    let answer = write(
+        frame.width,
+        frame.height,
+        frame.phase,
+        &frame.samples,
+        &mut file,
+    );
+    assert_eq!(answer, Ok(()), "{frame:?}");
+    file
+}
+
+/// Sets the check of one block of a file to what its bytes ask for.
+pub fn set_check(file: &mut [u8], number: usize) {
+    let block = &mut file[number * BLOCK..(number + 1) * BLOCK];
+    let sum = check(block);
+    block[508..].copy_from_slice(&sum.to_le_bytes());
+}
