@@ -1,0 +1,224 @@
+-- Document 01, "The frame file", and what read and write answer ("Calls and returns"). Definitions alone; their laws stand in the
+-- other modules of this crate. A byte is a natural number below 256, a file a list of them. Assumes nothing.
+use mathlib.Core.Bool.{Bool, true, false, cond, _&&_}
+use mathlib.Core.List.{List, [], _∷_, _++_}
+use Prim.Native.Nat.{ℕ, zero, suc, _+_, _*_, _-_, _/_, _%_}
+use lib.Dec.{leb, eqb}
+use lib.ListN.{length, getD, take, drop}
+use Rattle.frame.specs.declared.Shape.{Shape}
+use Rattle.frame.specs.declared.Refusal.{Refusal}
+use Rattle.frame.specs.declared.Refusal.the-variants.{BufferLength, FileLength, Check, Header, BlockNumber, Filler}
+use Rattle.frame.specs.declared.Answer.{Answer}
+use Rattle.frame.specs.declared.ReadAnswer.{ReadAnswer}
+use Rattle.frame.specs.declared.ReadAnswer.the-variants as Read
+use Rattle.frame.specs.Sites.{Frame, frame, side-allowed, phase-allowed}
+use Rattle.frame.specs.Calls.{answer-in-order, after}
+use Rattle.frame_file.specs.Lists.{part, joined, zeros, all-zero, same}
+
+-- ---- the frame file
+
+-- "Blocks of 512 bytes."
+abbrev pub block-size : ℕ
+block-size = 512
+
+-- block n of a file
+unfoldable pub block : List ℕ → ℕ → List ℕ
+block file n = part file (block-size * n) block-size
+
+-- "little-endian": the number that bytes stand for, and a number as n bytes
+unfoldable pub little-endian : List ℕ → ℕ
+little-endian [] = 0
+little-endian (b ∷ l) = b + 256 * little-endian l
+
+unfoldable pub little-endian-bytes : ℕ → ℕ → List ℕ
+little-endian-bytes zero v = []
+little-endian-bytes (suc n) v = (v % 256) ∷ little-endian-bytes n (v / 256)
+
+-- "Bytes 0..3: block number, little-endian, from 0."
+unfoldable pub block-number : List ℕ → ℕ
+block-number b = little-endian (part b 0 4)
+
+-- "the sum of (k+1) times byte k for k = 0..507": the same of the first n values of f
+unfoldable pub weighted-sum : (ℕ → ℕ) → ℕ → ℕ
+weighted-sum f zero = 0
+weighted-sum f (suc k) = weighted-sum f k + (k + 1) * f k
+
+unfoldable pub check : List ℕ → ℕ
+check b = weighted-sum (λ k. getD b k 0) 508
+
+-- "Bytes 508..511: check, little-endian, the sum of (k+1) times byte k for k = 0..507."
+unfoldable pub stored-check : List ℕ → ℕ
+stored-check b = little-endian (part b 508 4)
+
+-- "Block 0: bytes 4..7 are BAYR in ASCII,"
+unfoldable pub tag : List ℕ
+tag = 66 ∷ 65 ∷ 89 ∷ 82 ∷ []
+
+unfoldable pub has-tag : List ℕ → Bool
+has-tag b = same (part b 4 4) tag
+
+-- "8..9 W, 10..11 H (little-endian), 12 phase,"
+unfoldable pub header : List ℕ → Shape
+header b = record { width = little-endian (part b 8 2); height = little-endian (part b 10 2); phase = getD b 12 0 }
+
+-- "13..507 filler."
+unfoldable pub header-filler : List ℕ → List ℕ
+header-filler b = part b 13 495
+
+-- "Later blocks: bytes 4..503 payload,"; "The payload of a block is handed back as a part of the file, not copied."
+abbrev pub payload-size : ℕ
+payload-size = 500
+
+unfoldable pub payload : List ℕ → ℕ → List ℕ
+payload file n = part file (block-size * n + 4) payload-size
+
+-- "504..507 filler;"
+unfoldable pub block-filler : List ℕ → List ℕ
+block-filler b = part b 504 4
+
+-- "400 samples each, the last one filled with zero samples,"
+abbrev pub samples-per-block : ℕ
+samples-per-block = 400
+
+unfoldable pub filled-up : List ℕ → List ℕ
+filled-up samples = samples ++ zeros (samples-per-block - length samples)
+
+-- the samples of block n, from 1, out of those of the frame
+unfoldable pub block-samples : List ℕ → ℕ → List ℕ
+block-samples samples n = filled-up (part samples (samples-per-block * (n - 1)) samples-per-block)
+
+-- "so the count of blocks is 1 more than W·H/400 rounded up.", for W·H samples
+unfoldable pub block-count : ℕ → ℕ
+block-count samples = 1 + (samples + (samples-per-block - 1)) / samples-per-block
+
+unfoldable pub file-length : Frame → ℕ
+file-length f = block-size * block-count (f .height * f .width)
+
+-- "RAW10 packing (MIPI CSI-2): four samples in five bytes, four bytes of high eight bits, then one with the low two bits, first
+-- sample lowest."
+unfoldable pub packed : List ℕ → List ℕ
+packed s =
+    (getD s 0 0 / 4) ∷ (getD s 1 0 / 4) ∷ (getD s 2 0 / 4) ∷ (getD s 3 0 / 4)
+    ∷ (getD s 0 0 % 4 + 4 * (getD s 1 0 % 4) + 16 * (getD s 2 0 % 4) + 64 * (getD s 3 0 % 4)) ∷ []
+
+unfoldable pub unpacked : List ℕ → List ℕ
+unpacked b =
+    (4 * getD b 0 0 + getD b 4 0 % 4) ∷ (4 * getD b 1 0 + getD b 4 0 / 4 % 4) ∷ (4 * getD b 2 0 + getD b 4 0 / 16 % 4)
+    ∷ (4 * getD b 3 0 + getD b 4 0 / 64 % 4) ∷ []
+
+-- a payload is 100 such groups
+abbrev pub groups-per-block : ℕ
+groups-per-block = 100
+
+unfoldable pub packed-payload : List ℕ → List ℕ
+packed-payload samples = joined groups-per-block (λ g. packed (part samples (4 * g) 4))
+
+unfoldable pub unpacked-payload : List ℕ → List ℕ
+unpacked-payload bytes = joined groups-per-block (λ g. unpacked (part bytes (5 * g) 5))
+
+-- ---- the file that write makes of a frame
+
+-- the first 508 bytes of a block, and then their check
+unfoldable pub with-check : List ℕ → List ℕ
+with-check l = l ++ little-endian-bytes 4 (check l)
+
+unfoldable pub written-header : Frame → List ℕ
+written-header f =
+    with-check (little-endian-bytes 4 0 ++ (tag ++ (little-endian-bytes 2 (f .width) ++ (little-endian-bytes 2 (f .height) ++ (f .phase ∷ zeros 495)))))
+
+unfoldable pub written-samples : Frame → ℕ → List ℕ
+written-samples f n = with-check (little-endian-bytes 4 n ++ (packed-payload (block-samples (f .samples) n) ++ zeros 4))
+
+unfoldable pub written-block : Frame → ℕ → List ℕ
+written-block f zero = written-header f
+written-block f (suc n) = written-samples f (suc n)
+
+unfoldable pub written-file : Frame → List ℕ
+written-file f = joined (block-count (f .height * f .width)) (written-block f)
+
+-- "Write needs exactly the file's length."; "The order is 1 to 5."
+unfoldable pub write-answer : Frame → ℕ → Answer
+write-answer f lent-length = answer-in-order f (eqb lent-length (file-length f))
+
+-- "Every refusal leaves every buffer untouched.": what the lent file holds after write
+unfoldable pub file-after-write : Frame → List ℕ → List ℕ
+file-after-write f before = after (write-answer f (length before)) (written-file f) before
+
+-- ---- reading a file
+
+-- the frame that a file's header and payloads hold
+unfoldable pub stored-frame : List ℕ → Frame
+stored-frame file =
+    let shape : Shape = header (block file 0) in
+    let count : ℕ = shape .height * shape .width in
+    frame shape (take count (joined (block-count count - 1) (λ i. unpacked-payload (payload file (suc i)))))
+
+-- what read finds: a frame, or why there is none
+pub data Outcome : Type 0 where
+  accepted : Frame → Outcome
+  refused : Refusal → Outcome
+
+-- go on where a test holds, otherwise refuse
+abbrev pub tested : Bool → Refusal → Outcome → Outcome
+tested holds why rest = cond holds rest (refused why)
+
+-- "6: length below 512, no multiple of 512"
+unfoldable pub length-allowed : ℕ → Bool
+length-allowed n = leb block-size n && eqb (n % block-size) 0
+
+-- "7: check differs", "9: block number differs"
+unfoldable pub check-holds : List ℕ → Bool
+check-holds b = eqb (stored-check b) (check b)
+
+unfoldable pub number-holds : List ℕ → ℕ → Bool
+number-holds b n = eqb (block-number b) n
+
+-- "8: tag, W, H or phase not allowed"
+unfoldable pub header-allowed : List ℕ → Bool
+header-allowed b =
+    has-tag b && (side-allowed (header b .width) && (side-allowed (header b .height) && phase-allowed (header b .phase)))
+
+-- "10: a filler byte or sample is not zero": of block n, from 1, in the file of a frame of so many samples
+unfoldable pub filler-holds : List ℕ → ℕ → ℕ → Bool
+filler-holds file samples n =
+    all-zero (block-filler (block file n)) && all-zero (drop (samples - samples-per-block * (n - 1)) (unpacked-payload (payload file n)))
+
+-- "then blocks 1, 2, .. each for 7, 9, 10.": blocks n, n + 1, .., so many of them
+unfoldable pub later-blocks : List ℕ → Frame → ℕ → ℕ → Outcome
+later-blocks file f n zero = accepted f
+later-blocks file f n (suc left) =
+    tested (check-holds (block file n)) (Check n)
+    (tested (number-holds (block file n) n) (BlockNumber n)
+    (tested (filler-holds file (f .height * f .width) n) (Filler n)
+    (later-blocks file f (suc n) left)))
+
+-- "Read tests length, then block 0 for 7, 9, 8, 10, then the count (6), then 4, then blocks 1, 2, .. each for 7, 9, 10."; "Read needs
+-- W·H entries or more": `room` is how many it is lent
+unfoldable pub read-outcome : List ℕ → ℕ → Outcome
+read-outcome file room =
+    let f : Frame = stored-frame file in
+    tested (length-allowed (length file)) FileLength
+    (tested (check-holds (block file 0)) (Check 0)
+    (tested (number-holds (block file 0) 0) (BlockNumber 0)
+    (tested (header-allowed (block file 0)) Header
+    (tested (all-zero (header-filler (block file 0))) (Filler 0)
+    (tested (eqb (length file) (file-length f)) FileLength
+    (tested (leb (f .height * f .width) room) BufferLength
+    (later-blocks file f 1 (block-count (f .height * f .width) - 1))))))))
+
+-- "Success returns 0, 0, and read adds W, H and the phase; a refusal returns its number and place alone."
+abbrev pub answer-of : Outcome → ReadAnswer
+answer-of (accepted f) = Read.Frame (record { width = f .width; height = f .height; phase = f .phase })
+answer-of (refused why) = Read.Refused why
+
+unfoldable pub read-answer : List ℕ → ℕ → ReadAnswer
+read-answer file room = answer-of (read-outcome file room)
+
+-- "Read needs W·H entries or more, and those past W·H stay."; "Every refusal leaves every buffer untouched."
+abbrev pub samples-of : Outcome → List ℕ → List ℕ
+samples-of (accepted f) before = f .samples ++ drop (f .height * f .width) before
+samples-of (refused why) before = before
+
+-- what the lent samples hold after read
+unfoldable pub samples-after-read : List ℕ → List ℕ → List ℕ
+samples-after-read file before = samples-of (read-outcome file (length before)) before

@@ -1,0 +1,191 @@
+-- Parts of lists, lists joined from pieces, lists of zeros, and lists of small numbers. Assumes nothing.
+use mathlib.Core.Path.{_≡_, refl, sym, _∙_, ap, ap₂, subst}
+use mathlib.Core.Bool.{Bool, true, false, _&&_}
+use mathlib.Core.Logic.{⊎-elim}
+use mathlib.Core.List.{List, [], _∷_, _++_, append-nil}
+use Prim.Native.Nat.{ℕ, zero, suc, _+_, _-_, _*_, _≤_, _<_, min}
+use native.Mathlib.Nat.{eq-or-lt-of-le, mul-suc, mul-le-mul-left, le-refl}
+use native.Mathlib.Omega.{arith}
+use lib.Dec.{leb, eqb}
+use lib.ListN.{length, getD, take, drop, set, replicate, length-append, length-take, length-drop, length-replicate, getD-replicate, List·getD-append, List·getD-eq-default, drop-of-length-le, take-append-drop}
+use lib.Seq.{take-add, take-all, take-take, take-at, drop-at, drop-drop, take-append-le, drop-append-le, getD-take, getD-drop, ext-getD, getD-append-add, take-set-le, take-set-lt, drop-set-lt, drop-set-add}
+use Rattle.toolkit.specs.Tests.{by-test, leb-le, leb-gt, eqb-eq, eqb-yes}
+use Rattle.frame.specs.Admission.{and-true}
+
+-- ---- a part of a list: the n entries from position a on
+unfoldable pub part : List ℕ → ℕ → ℕ → List ℕ
+part l a n = take n (drop a l)
+
+pub length-part : (l : List ℕ) (a n : ℕ) → a + n ≤ length l → length (part l a n) ≡ n
+unfolding part
+length-part l a n h = simp (length-take, length-drop) (omega arith)
+
+pub length-part-min : (l : List ℕ) (a n : ℕ) → length (part l a n) ≡ min n (length l - a)
+unfolding part
+length-part-min l a n = simp (length-take, length-drop)
+
+pub getD-part : (l : List ℕ) (a n k : ℕ) → k < n → getD (part l a n) k 0 ≡ getD l (a + k) 0
+unfolding part
+getD-part l a n k h = getD-take n (drop a l) k 0 h ∙ getD-drop a l k 0
+
+pub part-split : (l : List ℕ) (a n m : ℕ) → part l a (n + m) ≡ part l a n ++ part l (a + n) m
+unfolding part
+part-split l a n m = take-add n m (drop a l) ∙ ap (λ (t : List ℕ). take n (drop a l) ++ take m t) (drop-drop n a l)
+
+pub part-whole : (l : List ℕ) (n : ℕ) → length l ≡ n → part l 0 n ≡ l
+unfolding part
+part-whole l n e = take-all n l (omega arith)
+
+-- the middle of three lists
+pub part-middle : (x y z : List ℕ) (a n : ℕ) → length x ≡ a → length y ≡ n → part (x ++ (y ++ z)) a n ≡ y
+unfolding part
+part-middle x y z a n e f = ap (take n) (drop-at x (y ++ z) a e) ∙ take-at y z n f
+
+pub part-append : (x y : List ℕ) (a n : ℕ) → a + n ≤ length x → part (x ++ y) a n ≡ part x a n
+unfolding part
+part-append x y a n h = ap (take n) (drop-append-le a x y (omega arith)) ∙ take-append-le n (drop a x) y (simp length-drop (omega arith))
+
+drop-take : (a n : ℕ) (l : List ℕ) → drop a (take (a + n) l) ≡ take n (drop a l)
+drop-take zero n l = let e : 0 + n ≡ n = omega arith in rw e
+drop-take (suc a) n [] = let e : suc a + n ≡ suc (a + n) = omega arith in rw e (sym (nil n))
+  where
+    nil : (n : ℕ) → _≡_ {A = List ℕ} (take n []) []
+    nil zero = refl
+    nil (suc n) = refl
+drop-take (suc a) n (x ∷ l) = let e : suc a + n ≡ suc (a + n) = omega arith in rw e (drop-take a n l)
+
+-- a part of a part
+pub part-part : (l : List ℕ) (a m b n : ℕ) → b + n ≤ m → part (part l a m) b n ≡ part l (a + b) n
+unfolding part
+part-part l a m b n h =
+    let e : m ≡ b + (m - b) = omega arith in
+    ap (λ (k : ℕ). take n (drop b (take k (drop a l)))) e
+    ∙ ap (take n) (drop-take b (m - b) (drop a l))
+    ∙ take-take n (m - b) (drop b (drop a l)) (omega arith)
+    ∙ ap (take n) (drop-drop b a l)
+
+-- ---- lists joined from n pieces: piece 0, piece 1, ..
+unfoldable pub joined : ℕ → (ℕ → List ℕ) → List ℕ
+joined zero piece = []
+joined (suc n) piece = joined n piece ++ piece n
+
+pub joined-cong : (n : ℕ) (p q : ℕ → List ℕ) → ((i : ℕ) → i < n → p i ≡ q i) → joined n p ≡ joined n q
+unfolding joined
+joined-cong zero p q e = refl
+joined-cong (suc n) p q e = ap₂ (λ (s t : List ℕ). s ++ t) (joined-cong n p q (λ i h. e i (omega arith))) (e n (le-refl (suc n)))
+
+-- a list is joined from its parts
+pub joined-parts : (l : List ℕ) (m n : ℕ) → take (m * n) l ≡ joined n (λ i. part l (m * i) m)
+unfolding joined part
+joined-parts l m zero = let e : m * 0 ≡ 0 = omega arith in rw e
+joined-parts l m (suc n) =
+    ap (λ (k : ℕ). take k l) (mul-suc m n)
+    ∙ take-add (m * n) m l
+    ∙ ap (λ (t : List ℕ). t ++ take m (drop (m * n) l)) (joined-parts l m n)
+
+-- pieces of equal length
+module _ (piece : ℕ → List ℕ) (m : ℕ) (each : (i : ℕ) → length (piece i) ≡ m) where
+  pub length-joined : (n : ℕ) → length (joined n piece) ≡ m * n
+  unfolding joined
+  length-joined zero = omega arith
+  length-joined (suc n) = length-append (joined n piece) (piece n) ∙ ap₂ (λ (s t : ℕ). s + t) (length-joined n) (each n) ∙ sym (mul-suc m n)
+
+  pub part-joined : (n i : ℕ) → i < n → part (joined n piece) (m * i) m ≡ piece i
+  unfolding joined
+  part-joined zero i h = absurd (omega arith)
+  part-joined (suc n) i h = ⊎-elim (λ (e : i ≡ n). rw e (last n)) (λ (k : i < n). before n i k ∙ part-joined n i k) (eq-or-lt-of-le (below n i h))
+    where
+      below : (n i : ℕ) → i < suc n → i ≤ n
+      below n i h = omega arith
+
+      last : (n : ℕ) → part (joined n piece ++ piece n) (m * n) m ≡ piece n
+      last n =
+          ap (λ (t : List ℕ). part (joined n piece ++ t) (m * n) m) (sym (append-nil (piece n)))
+          ∙ part-middle (joined n piece) (piece n) [] (m * n) m (length-joined n) (each n)
+
+      before : (n i : ℕ) → i < n → part (joined n piece ++ piece n) (m * i) m ≡ part (joined n piece) (m * i) m
+      before n i k = part-append (joined n piece) (piece n) (m * i) m (omega (arith, length-joined n, mul-suc m i, mul-le-mul-left m k))
+
+  pub getD-joined : (n i k : ℕ) → i < n → k < m → getD (joined n piece) (m * i + k) 0 ≡ getD (piece i) k 0
+  getD-joined n i k h l = sym (getD-part (joined n piece) (m * i) m k l) ∙ ap (λ (t : List ℕ). getD t k 0) (part-joined n i h)
+
+-- ---- zeros
+unfoldable pub zeros : ℕ → List ℕ
+zeros n = replicate n 0
+
+pub length-zeros : (n : ℕ) → length (zeros n) ≡ n
+unfolding zeros
+length-zeros n = length-replicate n 0
+
+unfoldable pub all-zero : List ℕ → Bool
+all-zero [] = true
+all-zero (x ∷ l) = eqb x 0 && all-zero l
+
+pub zeros-all-zero : (n : ℕ) → all-zero (zeros n) ≡ true
+unfolding zeros all-zero
+zeros-all-zero zero = refl
+zeros-all-zero (suc n) = zeros-all-zero n
+
+pub all-zero-zeros : (l : List ℕ) → all-zero l ≡ true → l ≡ zeros (length l)
+unfolding zeros all-zero
+all-zero-zeros [] e = refl
+all-zero-zeros (x ∷ l) e =
+    let t = and-true (eqb x 0) (all-zero l) e in ap₂ (λ (y : ℕ) (m : List ℕ). y ∷ m) (eqb-eq x 0 (t .0)) (all-zero-zeros l (t .1))
+
+-- ---- two lists are the same
+unfoldable pub same : List ℕ → List ℕ → Bool
+same [] [] = true
+same [] (y ∷ m) = false
+same (x ∷ l) [] = false
+same (x ∷ l) (y ∷ m) = eqb x y && same l m
+
+pub same-self : (l : List ℕ) → same l l ≡ true
+unfolding same
+same-self [] = refl
+same-self (x ∷ l) = rw (eqb-yes {m = x} {n = x} refl) (same-self l)
+
+pub same-equal : (l m : List ℕ) → same l m ≡ true → l ≡ m
+unfolding same
+same-equal [] [] e = refl
+same-equal [] (y ∷ m) e = absurd (let z : _≡_ {A = ℕ} 0 1 = cc in omega arith)
+same-equal (x ∷ l) [] e = absurd (let z : _≡_ {A = ℕ} 0 1 = cc in omega arith)
+same-equal (x ∷ l) (y ∷ m) e =
+    let t = and-true (eqb x y) (same l m) e in ap₂ (λ (z : ℕ) (k : List ℕ). z ∷ k) (eqb-eq x y (t .0)) (same-equal l m (t .1))
+
+-- ---- every entry is below a bound
+abbrev pub Below : ℕ → List ℕ → Type 0
+Below b l = (k : ℕ) → getD l k 0 < b
+
+pub below-from : (b : ℕ) (l : List ℕ) → 0 < b → ((k : ℕ) → k < length l → getD l k 0 < b) → Below b l
+below-from b l p h k =
+    by-test (leb (length l) k) (getD l k 0 < b)
+    (λ t. rw (List·getD-eq-default l 0 (leb-le (length l) k t)) p)
+    (λ t. h k (leb-gt (length l) k t))
+
+pub below-append : (b : ℕ) (l m : List ℕ) → Below b l → Below b m → Below b (l ++ m)
+below-append b [] m h g k = g k
+below-append b (x ∷ l) m h g zero = h 0
+below-append b (x ∷ l) m h g (suc k) = below-append b l m (λ i. h (suc i)) g k
+
+pub below-part : (b : ℕ) (l : List ℕ) (a n : ℕ) → Below b l → Below b (part l a n)
+below-part b l a n h k =
+    by-test (leb n k) (getD (part l a n) k 0 < b)
+    (λ t. rw (List·getD-eq-default (part l a n) 0 (past k (leb-le n k t))) (positive (h 0)))
+    (λ t. rw (getD-part l a n k (leb-gt n k t)) (h (a + k)))
+  where
+    past : (k : ℕ) → n ≤ k → length (part l a n) ≤ k
+    past k q = omega (arith, length-part-min l a n)
+
+    positive : getD l 0 0 < b → 0 < b
+    positive q = omega arith
+
+pub below-zeros : (b n : ℕ) → 0 < b → Below b (zeros n)
+unfolding zeros
+below-zeros b zero p k = p
+below-zeros b (suc n) p zero = p
+below-zeros b (suc n) p (suc k) = below-zeros b n p k
+
+pub below-joined : (b n : ℕ) (piece : ℕ → List ℕ) → 0 < b → ((i : ℕ) → Below b (piece i)) → Below b (joined n piece)
+unfolding joined
+below-joined b zero piece p h k = p
+below-joined b (suc n) piece p h k = below-append b (joined n piece) (piece n) (below-joined b n piece p h) (h n) k
