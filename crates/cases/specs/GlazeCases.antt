@@ -1,0 +1,95 @@
+-- Document 01, "Glaze cases": a table of what the definitions give beside what the document says, proved by one computation.
+-- Assumes nothing.
+use mathlib.Core.Path.{_≡_, refl, sym, _∙_, ap}
+use mathlib.Core.List.{List, [], _∷_, _++_, map}
+use Prim.Native.Nat.{ℕ}
+use lib.IntN.{ℤ, pos, negsuc}
+use lib.ListN.{getD, replicate, List·getD-map}
+use Rattle.toolkit.specs.Tables.{tabulate}
+use Rattle.toolkit.specs.Raster.{raster}
+use Rattle.toolkit.specs.Rounding.{round-half-up}
+use Rattle.frame.specs.Sites.{Frame, sample, Colour, red, green, blue, rggb, colour, reflect-once, reflect-times, reflect, around}
+use Rattle.method.specs.Gradients.{Directions, mosaic, apart, taps, six-tap, six-tap-pair, eastbound, east-gradient, west-gradient, gradients, gradients-at}
+use Rattle.method.specs.Green.{Direction, horizontal, vertical, diagonal, line-estimate, horizontal-estimate, half, estimate, threshold, Outcome, equal, strong-across, strong-down, weak, outcome, first-pass, outcome-at, first-pass-or, green-or, less-eight, trial-difference, reach, sum-about, column-sum, horizontal-sum, vertical-sum, diagonal-sum, least-sum, second-pass, second-pass-at, green-at}
+use Rattle.method.specs.Planes.{inner-round, one-if-zero, count-zeros, weight, weights, times, sum-of-four, weighted-sum, total, weighted-mean, green-difference, straight, mean-two-off, fusion-share, fused, final-difference, corners, diagonally, corner-gradients, chroma-site-difference, colour-difference, green-quarters, quarters, final-round, output, plane}
+use Rattle.frame_file.specs.Lists.{zeros}
+use Rattle.frame_file.specs.FrameFile as File
+
+-- what a case speaks of: a number, an outcome of the first pass, a direction
+pub data Value : Type 0 where
+  number : ℤ → Value
+  site : Outcome → Value
+  takes : Direction → Value
+
+abbrev numbers : List ℤ → List Value
+numbers l = map number l
+
+abbrev naturals : List ℕ → List Value
+naturals l = map (λ n. number (pos n)) l
+
+pub record Case : Type 0 where
+  pub given : List Value
+  pub told : List Value
+
+abbrev four : {X : Type 0} → X → X → X → X → Directions X
+four e w s n = record { east = e; west = w; south = s; north = n }
+
+-- "the frame above": W = H = 2, p = 0, samples 100 40 61 200
+abbrev small-frame : Frame
+small-frame = record { width = 2; height = 2; phase = 0; samples = 100 ∷ 40 ∷ 61 ∷ 200 ∷ [] }
+
+-- "8 rows of 0 0 0 0 800 800 800 800"
+abbrev edge-row : List ℕ
+edge-row = 0 ∷ 0 ∷ 0 ∷ 0 ∷ 800 ∷ 800 ∷ 800 ∷ 800 ∷ []
+
+abbrev edge-frame : Frame
+edge-frame = record {
+  width = 8;
+  height = 8;
+  phase = 0;
+  samples = edge-row ++ edge-row ++ edge-row ++ edge-row ++ edge-row ++ edge-row ++ edge-row ++ edge-row;
+}
+
+pub cases : List Case
+cases =
+    -- K1: the frame above, its red, green and blue planes
+    record {
+      given = numbers (plane small-frame red ++ plane small-frame green ++ plane small-frame blue);
+      told = naturals (100 ∷ 90 ∷ 111 ∷ 100 ∷ 51 ∷ 40 ∷ 61 ∷ 51 ∷ 200 ∷ 190 ∷ 211 ∷ 200 ∷ []);
+    }
+    -- K2: h,v = 17,10 weak
+    ∷ record { given = site (outcome 17 10) ∷ []; told = site weak ∷ [] }
+    -- K3: 18,10 strong, down
+    ∷ record { given = site (outcome 18 10) ∷ []; told = site strong-down ∷ [] }
+    -- K4: 7,0 strong
+    ∷ record { given = site (outcome 7 0) ∷ []; told = site strong-down ∷ [] }
+    -- K5: 0,0 takes gD
+    ∷ record { given = takes (first-pass-or (outcome 0 0) horizontal) ∷ []; told = takes diagonal ∷ [] }
+    -- K6: gradients 0,5,0,5 with values 8,100,3,100 give 6
+    ∷ record { given = numbers (weighted-mean (four (pos 8) (pos 100) (pos 3) (pos 100)) (four 0 5 0 5) ∷ []); told = naturals (6 ∷ []) }
+    -- K7: with −8 and −3 for 8 and 3, −5
+    ∷ record { given = numbers (weighted-mean (four (negsuc 7) (pos 100) (negsuc 2) (pos 100)) (four 0 5 0 5) ∷ []); told = numbers (negsuc 4 ∷ []) }
+    -- K8: gradients 1,2,4,4 with 4,0,0,0 give 2
+    ∷ record { given = numbers (weighted-mean (four (pos 4) (pos 0) (pos 0) (pos 0)) (four 1 2 4 4) ∷ []); told = naturals (2 ∷ []) }
+    -- K9: quarters −2, −6, 2 give 0, −1, 1
+    ∷ record { given = numbers (final-round (negsuc 1) ∷ final-round (negsuc 5) ∷ final-round (pos 2) ∷ []); told = numbers (pos 0 ∷ negsuc 0 ∷ pos 1 ∷ []) }
+    -- K10: E(0,0), E(0,2), E(0,3) are 3,200, 9,600, 9,600
+    ∷ record {
+      given = naturals (gradients-at (mosaic edge-frame) 0 0 .east ∷ gradients-at (mosaic edge-frame) 0 2 .east ∷ gradients-at (mosaic edge-frame) 0 3 .east ∷ []);
+      told = naturals (3200 ∷ 9600 ∷ 9600 ∷ []);
+    }
+    -- K11: samples 1023 0 1 2 pack to 255 0 0 0 147
+    ∷ record { given = naturals (File.packed (1023 ∷ 0 ∷ 1 ∷ 2 ∷ [])); told = naturals (255 ∷ 0 ∷ 0 ∷ 0 ∷ 147 ∷ []) }
+    -- K12: a block 1 with only byte 4 more, 255, has check 1,276
+    ∷ record { given = naturals (File.check (File.little-endian-bytes 4 1 ++ (255 ∷ zeros 503)) ∷ []); told = naturals (1276 ∷ []) }
+    ∷ []
+
+pub all-cases : map (λ (c : Case). c .given) cases ≡ map (λ (c : Case). c .told) cases
+unfolding cases tabulate raster round-half-up sample rggb colour reflect-once reflect-times reflect around mosaic apart taps six-tap six-tap-pair eastbound east-gradient west-gradient gradients gradients-at line-estimate horizontal-estimate half estimate threshold outcome first-pass outcome-at green-or less-eight trial-difference reach sum-about column-sum horizontal-sum vertical-sum diagonal-sum least-sum second-pass second-pass-at green-at inner-round one-if-zero count-zeros weight weights times sum-of-four weighted-sum total weighted-mean green-difference straight mean-two-off fusion-share fused final-difference corners diagonally corner-gradients chroma-site-difference colour-difference green-quarters quarters final-round output plane zeros File.packed File.check File.weighted-sum File.little-endian-bytes
+all-cases = refl
+
+-- each row, counted from 0
+pub one-case : (k : ℕ) → getD cases k (record { given = []; told = [] }) .given ≡ getD cases k (record { given = []; told = [] }) .told
+one-case k =
+    sym (List·getD-map (λ (c : Case). c .given) cases k (record { given = []; told = [] }))
+    ∙ (ap (λ (l : List (List Value)). getD l k []) all-cases ∙ List·getD-map (λ (c : Case). c .told) cases k (record { given = []; told = [] }))

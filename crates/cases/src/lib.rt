@@ -1,0 +1,1 @@
+// A library of specs/ alone: the glaze cases of document 01, as one table.
