@@ -8,12 +8,14 @@ use lib.ListN.{getD, replicate, List·getD-map}
 use Rattle.toolkit.specs.Tables.{tabulate}
 use Rattle.toolkit.specs.Raster.{raster}
 use Rattle.toolkit.specs.Rounding.{round-half-up}
-use Rattle.frame.specs.Sites.{Frame, sample, Colour, red, green, blue, rggb, colour, reflect-once, reflect-times, reflect, around}
+use Rattle.frame.specs.Sites.{Frame, sample, highest-sample, Colour, red, green, blue, rggb, colour, reflect-once, reflect-times, reflect, around}
+use Rattle.frame.specs.Calls.{held}
 use Rattle.method.specs.Gradients.{Directions, mosaic, apart, taps, six-tap, six-tap-pair, eastbound, east-gradient, west-gradient, gradients, gradients-at}
 use Rattle.method.specs.Green.{Direction, horizontal, vertical, diagonal, line-estimate, horizontal-estimate, half, estimate, threshold, Outcome, equal, strong-across, strong-down, weak, outcome, first-pass, outcome-at, first-pass-or, green-or, less-eight, trial-difference, reach, sum-about, column-sum, horizontal-sum, vertical-sum, diagonal-sum, least-sum, second-pass, second-pass-at, green-at}
 use Rattle.method.specs.Planes.{inner-round, one-if-zero, count-zeros, weight, weights, times, sum-of-four, weighted-sum, total, weighted-mean, green-difference, straight, mean-two-off, fusion-share, fused, final-difference, corners, diagonally, corner-gradients, chroma-site-difference, colour-difference, green-quarters, quarters, final-round, output, plane}
-use Rattle.frame_file.specs.Lists.{zeros}
+use Rattle.frame_file.specs.Lists.{zeros, joined}
 use Rattle.frame_file.specs.FrameFile as File
+use Rattle.printing.specs.Printing.{digits, decimal, numbers-line, heading, clamped-at, site-text, frame-text}
 
 -- what a case speaks of: a number, an outcome of the first pass, a direction
 pub data Value : Type 0 where
@@ -50,6 +52,15 @@ edge-frame = record {
   samples = edge-row ++ edge-row ++ edge-row ++ edge-row ++ edge-row ++ edge-row ++ edge-row ++ edge-row;
 }
 
+-- the five lines that document 01 prints of the small frame
+abbrev document-text : List ℕ
+document-text =
+    (114 ∷ 111 ∷ 119 ∷ 32 ∷ 99 ∷ 111 ∷ 108 ∷ 32 ∷ 114 ∷ 101 ∷ 100 ∷ 32 ∷ 103 ∷ 114 ∷ 101 ∷ 101 ∷ 110 ∷ 32 ∷ 98 ∷ 108 ∷ 117 ∷ 101 ∷ 10 ∷ [])
+    ++ (48 ∷ 32 ∷ 48 ∷ 32 ∷ 49 ∷ 48 ∷ 48 ∷ 32 ∷ 53 ∷ 49 ∷ 32 ∷ 50 ∷ 48 ∷ 48 ∷ 10 ∷ [])
+    ++ (48 ∷ 32 ∷ 49 ∷ 32 ∷ 57 ∷ 48 ∷ 32 ∷ 52 ∷ 48 ∷ 32 ∷ 49 ∷ 57 ∷ 48 ∷ 10 ∷ [])
+    ++ (49 ∷ 32 ∷ 48 ∷ 32 ∷ 49 ∷ 49 ∷ 49 ∷ 32 ∷ 54 ∷ 49 ∷ 32 ∷ 50 ∷ 49 ∷ 49 ∷ 10 ∷ [])
+    ++ (49 ∷ 32 ∷ 49 ∷ 32 ∷ 49 ∷ 48 ∷ 48 ∷ 32 ∷ 53 ∷ 49 ∷ 32 ∷ 50 ∷ 48 ∷ 48 ∷ 10 ∷ [])
+
 pub cases : List Case
 cases =
     -- K1: the frame above, its red, green and blue planes
@@ -82,10 +93,12 @@ cases =
     ∷ record { given = naturals (File.packed (1023 ∷ 0 ∷ 1 ∷ 2 ∷ [])); told = naturals (255 ∷ 0 ∷ 0 ∷ 0 ∷ 147 ∷ []) }
     -- K12: a block 1 with only byte 4 more, 255, has check 1,276
     ∷ record { given = naturals (File.check (File.little-endian-bytes 4 1 ++ (255 ∷ zeros 503)) ∷ []); told = naturals (1276 ∷ []) }
+    -- what the program prints of the frame of K1
+    ∷ record { given = naturals (frame-text small-frame); told = naturals document-text }
     ∷ []
 
 pub all-cases : map (λ (c : Case). c .given) cases ≡ map (λ (c : Case). c .told) cases
-unfolding cases tabulate raster round-half-up sample rggb colour reflect-once reflect-times reflect around mosaic apart taps six-tap six-tap-pair eastbound east-gradient west-gradient gradients gradients-at line-estimate horizontal-estimate half estimate threshold outcome first-pass outcome-at green-or less-eight trial-difference reach sum-about column-sum horizontal-sum vertical-sum diagonal-sum least-sum second-pass second-pass-at green-at inner-round one-if-zero count-zeros weight weights times sum-of-four weighted-sum total weighted-mean green-difference straight mean-two-off fusion-share fused final-difference corners diagonally corner-gradients chroma-site-difference colour-difference green-quarters quarters final-round output plane zeros File.packed File.check File.weighted-sum File.little-endian-bytes
+unfolding cases digits decimal numbers-line heading clamped-at site-text frame-text held highest-sample joined tabulate raster round-half-up sample rggb colour reflect-once reflect-times reflect around mosaic apart taps six-tap six-tap-pair eastbound east-gradient west-gradient gradients gradients-at line-estimate horizontal-estimate half estimate threshold outcome first-pass outcome-at green-or less-eight trial-difference reach sum-about column-sum horizontal-sum vertical-sum diagonal-sum least-sum second-pass second-pass-at green-at inner-round one-if-zero count-zeros weight weights times sum-of-four weighted-sum total weighted-mean green-difference straight mean-two-off fusion-share fused final-difference corners diagonally corner-gradients chroma-site-difference colour-difference green-quarters quarters final-round output plane zeros File.packed File.check File.weighted-sum File.little-endian-bytes
 all-cases = refl
 
 -- each row, counted from 0

@@ -90,7 +90,7 @@ admitted-done f allowed t a =
 -- ---- success is told by 0, 0
 
 refused-not-zero : {P : Type 0} (why : Refusal) → refused why ≡ returned Done → P
-unfolding refused returned
+unfolding returned
 refused-not-zero Size e = absurd (omega (arith, ap (λ (r : Returned). r .number) e))
 refused-not-zero Phase e = absurd (omega (arith, ap (λ (r : Returned). r .number) e))
 refused-not-zero MosaicLength e = absurd (omega (arith, ap (λ (r : Returned). r .number) e))

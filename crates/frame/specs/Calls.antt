@@ -24,7 +24,7 @@ pub record Returned : Type 0 where
   pub values : List ℕ
 
 -- the table "returned: number, place"
-unfoldable pub refused : Refusal → Returned
+abbrev pub refused : Refusal → Returned
 refused Size = record { number = 1; place = 0; values = [] }
 refused Phase = record { number = 2; place = 0; values = [] }
 refused MosaicLength = record { number = 3; place = 0; values = [] }

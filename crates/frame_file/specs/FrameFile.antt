@@ -1,6 +1,6 @@
 -- Document 01, "The frame file", and what read and write answer ("Calls and returns"). Definitions alone; their laws stand in the
 -- other modules of this crate. A byte is a natural number below 256, a file a list of them. Assumes nothing.
-use mathlib.Core.Bool.{Bool, true, false, cond, _&&_}
+use mathlib.Core.Bool.{Bool, cond, _&&_}
 use mathlib.Core.List.{List, [], _∷_, _++_}
 use Prim.Native.Nat.{ℕ, zero, suc, _+_, _*_, _-_, _/_, _%_}
 use lib.Dec.{leb, eqb}
@@ -14,6 +14,14 @@ use Rattle.frame.specs.declared.ReadAnswer.the-variants as Read
 use Rattle.frame.specs.Sites.{Frame, frame, side-allowed, phase-allowed}
 use Rattle.frame.specs.Calls.{answer-in-order, after}
 use Rattle.frame_file.specs.Lists.{part, joined, zeros, all-zero, same}
+
+-- W, H and the phase of a frame
+abbrev pub shape-of : Frame → Shape
+shape-of f = record { width = f .width; height = f .height; phase = f .phase }
+
+-- W·H
+abbrev pub sample-count : Frame → ℕ
+sample-count f = f .height * f .width
 
 -- ---- the frame file
 
@@ -92,7 +100,7 @@ unfoldable pub block-count : ℕ → ℕ
 block-count samples = 1 + (samples + (samples-per-block - 1)) / samples-per-block
 
 unfoldable pub file-length : Frame → ℕ
-file-length f = block-size * block-count (f .height * f .width)
+file-length f = block-size * block-count (sample-count f)
 
 -- "RAW10 packing (MIPI CSI-2): four samples in five bytes, four bytes of high eight bits, then one with the low two bits, first
 -- sample lowest."
@@ -122,19 +130,21 @@ unpacked-payload bytes = joined groups-per-block (λ g. unpacked (part bytes (5 
 unfoldable pub with-check : List ℕ → List ℕ
 with-check l = l ++ little-endian-bytes 4 (check l)
 
-unfoldable pub written-header : Frame → List ℕ
-written-header f =
-    with-check (little-endian-bytes 4 0 ++ (tag ++ (little-endian-bytes 2 (f .width) ++ (little-endian-bytes 2 (f .height) ++ (f .phase ∷ zeros 495)))))
+-- block 0 before its check
+unfoldable pub header-bytes : Shape → List ℕ
+header-bytes shape =
+    little-endian-bytes 4 0 ++ (tag ++ (little-endian-bytes 2 (shape .width) ++ (little-endian-bytes 2 (shape .height) ++ (shape .phase ∷ zeros 495))))
 
-unfoldable pub written-samples : Frame → ℕ → List ℕ
-written-samples f n = with-check (little-endian-bytes 4 n ++ (packed-payload (block-samples (f .samples) n) ++ zeros 4))
+-- block n, from 1, before its check
+unfoldable pub sample-bytes : List ℕ → ℕ → List ℕ
+sample-bytes samples n = little-endian-bytes 4 n ++ (packed-payload (block-samples samples n) ++ zeros 4)
 
 unfoldable pub written-block : Frame → ℕ → List ℕ
-written-block f zero = written-header f
-written-block f (suc n) = written-samples f (suc n)
+written-block f zero = with-check (header-bytes (shape-of f))
+written-block f (suc n) = with-check (sample-bytes (f .samples) (suc n))
 
 unfoldable pub written-file : Frame → List ℕ
-written-file f = joined (block-count (f .height * f .width)) (written-block f)
+written-file f = joined (block-count (sample-count f)) (written-block f)
 
 -- "Write needs exactly the file's length."; "The order is 1 to 5."
 unfoldable pub write-answer : Frame → ℕ → Answer
@@ -189,7 +199,7 @@ later-blocks file f n zero = accepted f
 later-blocks file f n (suc left) =
     tested (check-holds (block file n)) (Check n)
     (tested (number-holds (block file n) n) (BlockNumber n)
-    (tested (filler-holds file (f .height * f .width) n) (Filler n)
+    (tested (filler-holds file (sample-count f) n) (Filler n)
     (later-blocks file f (suc n) left)))
 
 -- "Read tests length, then block 0 for 7, 9, 8, 10, then the count (6), then 4, then blocks 1, 2, .. each for 7, 9, 10."; "Read needs
@@ -203,12 +213,12 @@ read-outcome file room =
     (tested (header-allowed (block file 0)) Header
     (tested (all-zero (header-filler (block file 0))) (Filler 0)
     (tested (eqb (length file) (file-length f)) FileLength
-    (tested (leb (f .height * f .width) room) BufferLength
-    (later-blocks file f 1 (block-count (f .height * f .width) - 1))))))))
+    (tested (leb (sample-count f) room) BufferLength
+    (later-blocks file f 1 (block-count (sample-count f) - 1))))))))
 
 -- "Success returns 0, 0, and read adds W, H and the phase; a refusal returns its number and place alone."
 abbrev pub answer-of : Outcome → ReadAnswer
-answer-of (accepted f) = Read.Frame (record { width = f .width; height = f .height; phase = f .phase })
+answer-of (accepted f) = Read.Frame (shape-of f)
 answer-of (refused why) = Read.Refused why
 
 unfoldable pub read-answer : List ℕ → ℕ → ReadAnswer
@@ -216,7 +226,7 @@ read-answer file room = answer-of (read-outcome file room)
 
 -- "Read needs W·H entries or more, and those past W·H stay."; "Every refusal leaves every buffer untouched."
 abbrev pub samples-of : Outcome → List ℕ → List ℕ
-samples-of (accepted f) before = f .samples ++ drop (f .height * f .width) before
+samples-of (accepted f) before = f .samples ++ drop (sample-count f) before
 samples-of (refused why) before = before
 
 -- what the lent samples hold after read

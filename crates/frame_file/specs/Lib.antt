@@ -1,2 +1,13 @@
 pub mod Lists
 pub mod FrameFile
+pub mod LittleEndian
+pub mod Check
+pub mod Raw10
+pub mod WrittenBlocks
+pub mod BlocksFromTests
+pub mod BlockSamples
+pub mod ReadTests
+pub mod WrittenFile
+pub mod AcceptedExactlyWhenWritten
+pub mod OneByteChanged
+pub mod ReadAndWrite

@@ -1,14 +1,15 @@
 -- Parts of lists, lists joined from pieces, lists of zeros, and lists of small numbers. Assumes nothing.
-use mathlib.Core.Path.{_≡_, refl, sym, _∙_, ap, ap₂, subst}
+use mathlib.Core.Path.{_≡_, refl, sym, _∙_, ap, ap₂}
 use mathlib.Core.Bool.{Bool, true, false, _&&_}
 use mathlib.Core.Logic.{⊎-elim}
-use mathlib.Core.List.{List, [], _∷_, _++_, append-nil}
+use mathlib.Core.List.{List, [], _∷_, _++_, append-nil, append-assoc}
 use Prim.Native.Nat.{ℕ, zero, suc, _+_, _-_, _*_, _≤_, _<_, min}
-use native.Mathlib.Nat.{eq-or-lt-of-le, mul-suc, mul-le-mul-left, le-refl}
+use native.Mathlib.Nat.{sub-zero, zero-sub, suc-sub-suc, eq-or-lt-of-le, mul-suc, mul-le-mul-left, le-refl}
+use native.Mathlib.Numerals.{add-one}
 use native.Mathlib.Omega.{arith}
 use lib.Dec.{leb, eqb}
-use lib.ListN.{length, getD, take, drop, set, replicate, length-append, length-take, length-drop, length-replicate, getD-replicate, List·getD-append, List·getD-eq-default, drop-of-length-le, take-append-drop}
-use lib.Seq.{take-add, take-all, take-take, take-at, drop-at, drop-drop, take-append-le, drop-append-le, getD-take, getD-drop, ext-getD, getD-append-add, take-set-le, take-set-lt, drop-set-lt, drop-set-add}
+use lib.ListN.{length, getD, take, drop, set, replicate, length-append, length-take, length-drop, length-replicate, List·getD-eq-default}
+use lib.Seq.{length-take-le, drop-append-add, take-nil, take-add, take-all, take-take, take-at, drop-at, drop-drop, take-append-le, drop-append-le, getD-take, getD-drop, take-set-le, take-set-lt, drop-set-lt, drop-set-add}
 use Rattle.toolkit.specs.Tests.{by-test, leb-le, leb-gt, eqb-eq, eqb-yes}
 use Rattle.frame.specs.Admission.{and-true}
 
@@ -28,6 +29,10 @@ pub getD-part : (l : List ℕ) (a n k : ℕ) → k < n → getD (part l a n) k 0
 unfolding part
 getD-part l a n k h = getD-take n (drop a l) k 0 h ∙ getD-drop a l k 0
 
+pub getD-front : (l : List ℕ) (n k : ℕ) → k < n → getD (part l 0 n) k 0 ≡ getD l k 0
+unfolding part
+getD-front l n k h = getD-take n l k 0 h
+
 pub part-split : (l : List ℕ) (a n m : ℕ) → part l a (n + m) ≡ part l a n ++ part l (a + n) m
 unfolding part
 part-split l a n m = take-add n m (drop a l) ∙ ap (λ (t : List ℕ). take n (drop a l) ++ take m t) (drop-drop n a l)
@@ -45,24 +50,43 @@ pub part-append : (x y : List ℕ) (a n : ℕ) → a + n ≤ length x → part (
 unfolding part
 part-append x y a n h = ap (take n) (drop-append-le a x y (omega arith)) ∙ take-append-le n (drop a x) y (simp length-drop (omega arith))
 
-drop-take : (a n : ℕ) (l : List ℕ) → drop a (take (a + n) l) ≡ take n (drop a l)
-drop-take zero n l = let e : 0 + n ≡ n = omega arith in rw e
-drop-take (suc a) n [] = let e : suc a + n ≡ suc (a + n) = omega arith in rw e (sym (nil n))
-  where
-    nil : (n : ℕ) → _≡_ {A = List ℕ} (take n []) []
-    nil zero = refl
-    nil (suc n) = refl
-drop-take (suc a) n (x ∷ l) = let e : suc a + n ≡ suc (a + n) = omega arith in rw e (drop-take a n l)
+drop-take : (a m : ℕ) (l : List ℕ) → drop a (take m l) ≡ take (m - a) (drop a l)
+drop-take zero m l = rw sub-zero
+drop-take (suc a) zero l = rw zero-sub
+drop-take (suc a) (suc m) [] = sym (take-nil (suc m - suc a))
+drop-take (suc a) (suc m) (x ∷ l) = rw suc-sub-suc (drop-take a m l)
+
+take-comm : (m n : ℕ) (l : List ℕ) → take m (take n l) ≡ take n (take m l)
+take-comm zero n l = sym (take-nil n)
+take-comm (suc m) zero l = refl
+take-comm (suc m) (suc n) [] = refl
+take-comm (suc m) (suc n) (x ∷ l) = ap (λ (t : List ℕ). x ∷ t) (take-comm m n l)
 
 -- a part of a part
 pub part-part : (l : List ℕ) (a m b n : ℕ) → b + n ≤ m → part (part l a m) b n ≡ part l (a + b) n
 unfolding part
 part-part l a m b n h =
-    let e : m ≡ b + (m - b) = omega arith in
-    ap (λ (k : ℕ). take n (drop b (take k (drop a l)))) e
-    ∙ ap (take n) (drop-take b (m - b) (drop a l))
-    ∙ take-take n (m - b) (drop b (drop a l)) (omega arith)
-    ∙ ap (take n) (drop-drop b a l)
+    ap (take n) (drop-take b m (drop a l)) ∙ take-take n (m - b) (drop b (drop a l)) (omega arith) ∙ ap (take n) (drop-drop b a l)
+
+-- a part of the first m entries
+pub part-take : (l : List ℕ) (m a n : ℕ) → part (take m l) a n ≡ take (m - a) (part l a n)
+unfolding part
+part-take l m a n = ap (take n) (drop-take a m l) ∙ take-comm n (m - a) (drop a l)
+
+-- a part after one entry is changed: one that ends before it, one that begins past it, one that has it
+pub part-set-past : (l : List ℕ) (k v a n : ℕ) → a + n ≤ k → part (set l k v) a n ≡ part l a n
+unfolding part
+part-set-past l k v a n h =
+    let e : k ≡ a + (k - a) = omega arith in
+    ap (λ (j : ℕ). take n (drop a (set l j v))) e ∙ ap (take n) (drop-set-add a l (k - a) v) ∙ take-set-le n (drop a l) (k - a) v (omega arith)
+
+pub part-set-before : (l : List ℕ) (k v a n : ℕ) → k < a → part (set l k v) a n ≡ part l a n
+unfolding part
+part-set-before l k v a n h = ap (take n) (drop-set-lt a l k v h)
+
+pub part-set-inside : (l : List ℕ) (i v a n : ℕ) → i < n → part (set l (a + i) v) a n ≡ set (part l a n) i v
+unfolding part
+part-set-inside l i v a n h = ap (take n) (drop-set-add a l i v) ∙ take-set-lt n (drop a l) i v h
 
 -- ---- lists joined from n pieces: piece 0, piece 1, ..
 unfoldable pub joined : ℕ → (ℕ → List ℕ) → List ℕ
@@ -109,6 +133,32 @@ module _ (piece : ℕ → List ℕ) (m : ℕ) (each : (i : ℕ) → length (piec
   pub getD-joined : (n i k : ℕ) → i < n → k < m → getD (joined n piece) (m * i + k) 0 ≡ getD (piece i) k 0
   getD-joined n i k h l = sym (getD-part (joined n piece) (m * i) m k l) ∙ ap (λ (t : List ℕ). getD t k 0) (part-joined n i h)
 
+-- ---- a list with other entries put at position a
+unfoldable pub put-at : List ℕ → ℕ → List ℕ → List ℕ
+put-at l a m = take a l ++ (m ++ drop (a + length m) l)
+
+pub length-put-at : (l : List ℕ) (a : ℕ) (m : List ℕ) → a + length m ≤ length l → length (put-at l a m) ≡ length l
+unfolding put-at
+length-put-at l a m h =
+    omega (arith, length-append (take a l) (m ++ drop (a + length m) l), length-append m (drop (a + length m) l), length-drop (a + length m) l, length-take-le a l (omega arith))
+
+-- a list that is filled up to position k, filled further
+pub put-at-next : (front rest m : List ℕ) (k : ℕ) → length front ≡ k → put-at (front ++ drop k rest) k m ≡ (front ++ m) ++ drop (k + length m) rest
+unfolding put-at
+put-at-next front rest m k e =
+    ap₂ (λ (s t : List ℕ). s ++ (m ++ t)) (take-at front (drop k rest) k e)
+    (ap (λ (n : ℕ). drop (n + length m) (front ++ drop k rest)) (sym e) ∙ drop-append-add front (drop k rest) (length m) ∙ drop-drop (length m) k rest)
+    ∙ sym (append-assoc front m (drop (k + length m) rest))
+
+-- pieces put one after the other
+pub put-at-joined : (piece : ℕ → List ℕ) (m : ℕ) → ((i : ℕ) → length (piece i) ≡ m) → (rest : List ℕ) (n : ℕ)
+    → put-at (joined n piece ++ drop (m * n) rest) (m * n) (piece n) ≡ joined (n + 1) piece ++ drop (m * (n + 1)) rest
+unfolding joined
+put-at-joined piece m each rest n =
+    let next : m * n + length (piece n) ≡ m * (n + 1) = omega (arith, each n, mul-suc m n, add-one n) in
+    put-at-next (joined n piece) rest (piece n) (m * n) (length-joined piece m each n)
+    ∙ ap₂ (λ (s : List ℕ) (k : ℕ). s ++ drop k rest) (ap (λ (k : ℕ). joined k piece) (sym (add-one n))) next
+
 -- ---- zeros
 unfoldable pub zeros : ℕ → List ℕ
 zeros n = replicate n 0
@@ -116,6 +166,20 @@ zeros n = replicate n 0
 pub length-zeros : (n : ℕ) → length (zeros n) ≡ n
 unfolding zeros
 length-zeros n = length-replicate n 0
+
+pub drop-zeros : (k n : ℕ) → drop k (zeros n) ≡ zeros (n - k)
+unfolding zeros
+drop-zeros zero n = rw sub-zero
+drop-zeros (suc k) zero = rw zero-sub
+drop-zeros (suc k) (suc n) = rw suc-sub-suc (drop-zeros k n)
+
+pub getD-append-zeros : (l : List ℕ) (n k : ℕ) → getD (l ++ zeros n) k 0 ≡ getD l k 0
+unfolding zeros
+getD-append-zeros [] zero k = refl
+getD-append-zeros [] (suc n) zero = refl
+getD-append-zeros [] (suc n) (suc k) = getD-append-zeros [] n k
+getD-append-zeros (x ∷ l) n zero = refl
+getD-append-zeros (x ∷ l) n (suc k) = getD-append-zeros l n k
 
 unfoldable pub all-zero : List ℕ → Bool
 all-zero [] = true
@@ -189,3 +253,10 @@ pub below-joined : (b n : ℕ) (piece : ℕ → List ℕ) → 0 < b → ((i : �
 unfolding joined
 below-joined b zero piece p h k = p
 below-joined b (suc n) piece p h k = below-append b (joined n piece) (piece n) (below-joined b n piece p h) (h n) k
+
+pub below-set : (b : ℕ) (l : List ℕ) (i v : ℕ) → v < b → Below b l → Below b (set l i v)
+below-set b [] i v p h k = h k
+below-set b (x ∷ l) zero v p h zero = p
+below-set b (x ∷ l) zero v p h (suc k) = h (suc k)
+below-set b (x ∷ l) (suc i) v p h zero = h 0
+below-set b (x ∷ l) (suc i) v p h (suc k) = below-set b l i v p (λ j. h (suc j)) k

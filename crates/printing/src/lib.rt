@@ -1,0 +1,1 @@
+// A library of specs/ alone: what the program prints.
