@@ -4,14 +4,14 @@ use mathlib.Core.Path.{_≡_, refl, sym, _∙_, ap}
 use mathlib.Core.List.{List, [], _∷_, _++_, map}
 use Prim.Native.Nat.{ℕ}
 use lib.IntN.{ℤ, pos, negsuc}
-use lib.ListN.{getD, replicate, List·getD-map}
+use lib.ListN.{getD, List·getD-map}
 use Rattle.toolkit.specs.Tables.{tabulate}
 use Rattle.toolkit.specs.Raster.{raster}
 use Rattle.toolkit.specs.Rounding.{round-half-up}
-use Rattle.frame.specs.Sites.{Frame, sample, highest-sample, Colour, red, green, blue, rggb, colour, reflect-once, reflect-times, reflect, around}
+use Rattle.frame.specs.Sites.{Frame, sample, highest-sample, red, green, blue, rggb, colour, reflect-once, reflect-times, reflect, around}
 use Rattle.frame.specs.Calls.{held}
 use Rattle.method.specs.Gradients.{Directions, mosaic, apart, taps, six-tap, six-tap-pair, eastbound, east-gradient, west-gradient, gradients, gradients-at}
-use Rattle.method.specs.Green.{Direction, horizontal, vertical, diagonal, line-estimate, horizontal-estimate, half, estimate, threshold, Outcome, equal, strong-across, strong-down, weak, outcome, first-pass, outcome-at, first-pass-or, green-or, less-eight, trial-difference, reach, sum-about, column-sum, horizontal-sum, vertical-sum, diagonal-sum, least-sum, second-pass, second-pass-at, green-at}
+use Rattle.method.specs.Green.{Direction, horizontal, diagonal, line-estimate, horizontal-estimate, half, estimate, threshold, Outcome, strong-down, weak, outcome, first-pass, outcome-at, first-pass-or, green-or, less-eight, trial-difference, reach, sum-about, column-sum, horizontal-sum, vertical-sum, diagonal-sum, least-sum, second-pass, second-pass-at, green-at}
 use Rattle.method.specs.Planes.{inner-round, one-if-zero, count-zeros, weight, weights, times, sum-of-four, weighted-sum, total, weighted-mean, green-difference, straight, mean-two-off, fusion-share, fused, final-difference, corners, diagonally, corner-gradients, chroma-site-difference, colour-difference, green-quarters, quarters, final-round, output, plane}
 use Rattle.frame_file.specs.Lists.{zeros, joined}
 use Rattle.frame_file.specs.FrameFile as File
@@ -79,14 +79,26 @@ cases =
     -- K6: gradients 0,5,0,5 with values 8,100,3,100 give 6
     ∷ record { given = numbers (weighted-mean (four (pos 8) (pos 100) (pos 3) (pos 100)) (four 0 5 0 5) ∷ []); told = naturals (6 ∷ []) }
     -- K7: with −8 and −3 for 8 and 3, −5
-    ∷ record { given = numbers (weighted-mean (four (negsuc 7) (pos 100) (negsuc 2) (pos 100)) (four 0 5 0 5) ∷ []); told = numbers (negsuc 4 ∷ []) }
+    ∷ record {
+      given =
+          numbers (weighted-mean (four (negsuc 7) (pos 100) (negsuc 2) (pos 100)) (four 0 5 0 5) ∷ []);
+      told =
+          numbers (negsuc 4 ∷ []);
+    }
     -- K8: gradients 1,2,4,4 with 4,0,0,0 give 2
     ∷ record { given = numbers (weighted-mean (four (pos 4) (pos 0) (pos 0) (pos 0)) (four 1 2 4 4) ∷ []); told = naturals (2 ∷ []) }
     -- K9: quarters −2, −6, 2 give 0, −1, 1
-    ∷ record { given = numbers (final-round (negsuc 1) ∷ final-round (negsuc 5) ∷ final-round (pos 2) ∷ []); told = numbers (pos 0 ∷ negsuc 0 ∷ pos 1 ∷ []) }
+    ∷ record {
+      given =
+          numbers (final-round (negsuc 1) ∷ final-round (negsuc 5) ∷ final-round (pos 2) ∷ []);
+      told =
+          numbers (pos 0 ∷ negsuc 0 ∷ pos 1 ∷ []);
+    }
     -- K10: E(0,0), E(0,2), E(0,3) are 3,200, 9,600, 9,600
     ∷ record {
-      given = naturals (gradients-at (mosaic edge-frame) 0 0 .east ∷ gradients-at (mosaic edge-frame) 0 2 .east ∷ gradients-at (mosaic edge-frame) 0 3 .east ∷ []);
+      given = naturals
+          (gradients-at (mosaic edge-frame) 0 0 .east ∷ gradients-at (mosaic edge-frame) 0 2 .east ∷ gradients-at
+          (mosaic edge-frame) 0 3 .east ∷ []);
       told = naturals (3200 ∷ 9600 ∷ 9600 ∷ []);
     }
     -- K11: samples 1023 0 1 2 pack to 255 0 0 0 147
@@ -105,4 +117,5 @@ all-cases = refl
 pub one-case : (k : ℕ) → getD cases k (record { given = []; told = [] }) .given ≡ getD cases k (record { given = []; told = [] }) .told
 one-case k =
     sym (List·getD-map (λ (c : Case). c .given) cases k (record { given = []; told = [] }))
-    ∙ (ap (λ (l : List (List Value)). getD l k []) all-cases ∙ List·getD-map (λ (c : Case). c .told) cases k (record { given = []; told = [] }))
+    ∙ (ap (λ (l : List (List Value)). getD l k []) all-cases
+    ∙ List·getD-map (λ (c : Case). c .told) cases k (record { given = []; told = [] }))

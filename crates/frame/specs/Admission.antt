@@ -1,18 +1,18 @@
 -- Laws of the refusals: a call is done exactly when the frame is admitted and the other lengths are allowed. Assumes nothing.
 use mathlib.Core.Path.{_≡_, refl, ap}
-use mathlib.Core.Bool.{Bool, true, false, cond, _&&_}
+use mathlib.Core.Bool.{Bool, true, false, _&&_}
 use mathlib.Core.List.{List, [], _∷_}
 use Prim.Native.Nat.{ℕ, zero, suc, _+_, _*_, _<_, _≤_}
 use native.Mathlib.Omega.{arith}
-use lib.Dec.{T, leb, eqb, leb→le, le→leb}
+use lib.Dec.{T, leb}
 use lib.ListN.{length, getD}
-use Rattle.toolkit.specs.Tests.{by-test, is-true, leb-le, leb-gt, leb-yes, leb-no, eqb-eq, eqb-yes}
+use Rattle.toolkit.specs.Tests.{is-true, leb-le, leb-yes, leb-no, eqb-eq, eqb-yes}
 use Rattle.frame.specs.declared.Refusal.{Refusal}
 use Rattle.frame.specs.declared.Refusal.the-variants.{Size, Phase, MosaicLength, BufferLength, Sample, FileLength, Check, Header, BlockNumber, Filler}
 use Rattle.frame.specs.declared.Answer.{Answer}
 use Rattle.frame.specs.declared.Answer.the-variants.{Done, Refused}
 use Rattle.frame.specs.Sites.{Frame, side-allowed, phase-allowed, highest-sample}
-use Rattle.frame.specs.Calls.{Returned, refused, returned, tested, samples-answer, answer-in-order, Admitted}
+use Rattle.frame.specs.Calls.{Returned, success, refused, returned, tested, samples-answer, answer-in-order, Admitted}
 
 pub refused-not-done : {P : Type 0} (why : Refusal) → Refused why ≡ Done → P
 refused-not-done why e = absurd (let z : _≡_ {A = ℕ} 0 1 = cc in omega arith)
@@ -37,7 +37,8 @@ samples-done k (z ∷ l) e (suc n) h =
 pub done-samples : (k : ℕ) (l : List ℕ) → ((n : ℕ) → n < length l → getD l n 0 ≤ highest-sample) → samples-answer k l ≡ Done
 unfolding samples-answer
 done-samples k [] each = refl
-done-samples k (z ∷ l) each = rw (leb-yes {m = z} {n = highest-sample} (each zero (omega arith))) (done-samples (suc k) l (λ n h. each (suc n) (omega arith)))
+done-samples k (z ∷ l) each =
+    rw (leb-yes {m = z} {n = highest-sample} (each zero (omega arith))) (done-samples (suc k) l (λ n h. each (suc n) (omega arith)))
 
 -- the place is that of the first sample above the highest
 pub samples-refused : (k : ℕ) (l : List ℕ) (n : ℕ) → n < length l → highest-sample < getD l n 0
@@ -89,8 +90,7 @@ admitted-done f allowed t a =
 
 -- ---- success is told by 0, 0
 
-refused-not-zero : {P : Type 0} (why : Refusal) → refused why ≡ returned Done → P
-unfolding returned
+refused-not-zero : {P : Type 0} (why : Refusal) → refused why ≡ success → P
 refused-not-zero Size e = absurd (omega (arith, ap (λ (r : Returned). r .number) e))
 refused-not-zero Phase e = absurd (omega (arith, ap (λ (r : Returned). r .number) e))
 refused-not-zero MosaicLength e = absurd (omega (arith, ap (λ (r : Returned). r .number) e))
@@ -102,7 +102,6 @@ refused-not-zero Header e = absurd (omega (arith, ap (λ (r : Returned). r .numb
 refused-not-zero (BlockNumber k) e = absurd (omega (arith, ap (λ (r : Returned). r .number) e))
 refused-not-zero (Filler k) e = absurd (omega (arith, ap (λ (r : Returned). r .number) e))
 
-pub returned-done : (a : Answer) → returned a ≡ returned Done → a ≡ Done
-unfolding returned
+pub returned-done : (a : Answer) → returned a ≡ success → a ≡ Done
 returned-done Done e = refl
 returned-done (Refused why) e = refused-not-zero why e

@@ -1,14 +1,13 @@
 -- Document 01, "Calls and returns": what develop and clamp answer, and the numbers of all calls. Definitions alone; their laws are in
 -- `Admission`. The answers of read and write stand with the frame file. Assumes nothing.
 use mathlib.Core.Path.{_≡_}
-use mathlib.Core.Bool.{Bool, true, false, cond, _&&_}
+use mathlib.Core.Bool.{Bool, cond, _&&_}
 use mathlib.Core.List.{List, [], _∷_, map}
-use Prim.Native.Nat.{ℕ, zero, suc, _+_, _*_, _≤_, _<_}
+use Prim.Native.Nat.{ℕ, suc, _*_, _≤_, _<_}
 use lib.Dec.{T, leb, eqb}
 use lib.IntN.{ℤ, pos}
 use lib.ListN.{length, getD}
 use lib.Signed.{ltZ}
-use Rattle.frame.specs.declared.Shape.{Shape}
 use Rattle.frame.specs.declared.Refusal.{Refusal}
 use Rattle.frame.specs.declared.Refusal.the-variants.{Size, Phase, MosaicLength, BufferLength, Sample, FileLength, Check, Header, BlockNumber, Filler}
 use Rattle.frame.specs.declared.Answer.{Answer}
@@ -17,32 +16,40 @@ use Rattle.frame.specs.declared.ReadAnswer.{ReadAnswer}
 use Rattle.frame.specs.declared.ReadAnswer.the-variants as Read
 use Rattle.frame.specs.Sites.{Frame, side-allowed, phase-allowed, highest-sample}
 
--- "Success returns 0, 0, and read adds W, H and the phase; a refusal returns its number and place alone."
 pub record Returned : Type 0 where
   pub number : ℕ
   pub place : ℕ
-  pub values : List ℕ
+
+-- "Success returns 0, 0,"
+abbrev pub success : Returned
+success = record { number = 0; place = 0 }
 
 -- the table "returned: number, place"
 abbrev pub refused : Refusal → Returned
-refused Size = record { number = 1; place = 0; values = [] }
-refused Phase = record { number = 2; place = 0; values = [] }
-refused MosaicLength = record { number = 3; place = 0; values = [] }
-refused BufferLength = record { number = 4; place = 0; values = [] }
-refused (Sample position) = record { number = 5; place = position; values = [] }
-refused FileLength = record { number = 6; place = 0; values = [] }
-refused (Check block) = record { number = 7; place = block; values = [] }
-refused Header = record { number = 8; place = 0; values = [] }
-refused (BlockNumber block) = record { number = 9; place = block; values = [] }
-refused (Filler block) = record { number = 10; place = block; values = [] }
+refused Size = record { number = 1; place = 0 }
+refused Phase = record { number = 2; place = 0 }
+refused MosaicLength = record { number = 3; place = 0 }
+refused BufferLength = record { number = 4; place = 0 }
+refused (Sample position) = record { number = 5; place = position }
+refused FileLength = record { number = 6; place = 0 }
+refused (Check block) = record { number = 7; place = block }
+refused Header = record { number = 8; place = 0 }
+refused (BlockNumber block) = record { number = 9; place = block }
+refused (Filler block) = record { number = 10; place = block }
 
-unfoldable pub returned : Answer → Returned
-returned Done = record { number = 0; place = 0; values = [] }
+-- "a refusal returns its number and place alone."
+abbrev pub returned : Answer → Returned
+returned Done = success
 returned (Refused why) = refused why
 
-unfoldable pub returned-by-read : ReadAnswer → Returned
-returned-by-read (Read.Frame shape) = record { number = 0; place = 0; values = shape .width ∷ shape .height ∷ shape .phase ∷ [] }
+abbrev pub returned-by-read : ReadAnswer → Returned
+returned-by-read (Read.Frame shape) = success
 returned-by-read (Read.Refused why) = refused why
+
+-- "and read adds W, H and the phase;"
+abbrev pub values-of-read : ReadAnswer → List ℕ
+values-of-read (Read.Frame shape) = shape .width ∷ shape .height ∷ shape .phase ∷ []
+values-of-read (Read.Refused why) = []
 
 -- ---- the refusals of develop, write and clamp
 

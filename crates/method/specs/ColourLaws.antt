@@ -1,16 +1,17 @@
 -- Which colours the method reads: two off the site's own, at the corners the other of red and blue, beside a green site two of each.
 -- Assumes nothing.
-use mathlib.Core.Path.{_≡_, refl, sym, _∙_, ap, ap₂}
-use mathlib.Core.Bool.{Bool, true, false, not}
+use mathlib.Core.Path.{_≡_, refl, _∙_, ap}
+use mathlib.Core.Bool.{false, not}
 use Prim.Native.Nat.{ℕ, _+_, _≤_}
 use native.Mathlib.Omega.{arith}
 use lib.IntN.{ℤ, natAbs}
-use Rattle.frame.specs.Sites.{Colour, red, green, blue, colour, around}
+use Rattle.frame.specs.Sites.{Colour, green, colour, around}
 use Rattle.frame.specs.Colours.{trade, is-green, colour-parity, colour-around, colour-diagonal, colour-beside, colour-below}
 use Rattle.method.specs.Gradients.{Directions}
 use Rattle.method.specs.Planes.{straight, diagonally, corners}
 
-pub Directions-path : {X : Type 0} {p q : Directions X} → p .east ≡ q .east → p .west ≡ q .west → p .south ≡ q .south → p .north ≡ q .north → p ≡ q
+pub Directions-path : {X : Type 0} {p q : Directions X} → p .east ≡ q .east → p .west ≡ q .west → p .south ≡ q .south
+    → p .north ≡ q .north → p ≡ q
 Directions-path e w s n = λ t. record { east = e t; west = w t; south = s t; north = n t }
 
 abbrev pub all-four : {X : Type 0} → X → Directions X
@@ -36,12 +37,14 @@ module _ (H W p i j : ℕ) (h : 2 ≤ H) (w : 2 ≤ W) where
   unfolding corners diagonally
   corner-colour = Directions-path (there _ _ refl) (there _ _ refl) (there _ _ refl) (there _ _ refl)
     where
-      there : (r c : ℤ) → colour p (i + natAbs r) (j + natAbs c) ≡ colour p (i + 1) (j + 1) → around H W (colour p) i j r c ≡ trade (colour p i j)
+      there : (r c : ℤ) → colour p (i + natAbs r) (j + natAbs c) ≡ colour p (i + 1) (j + 1)
+          → around H W (colour p) i j r c ≡ trade (colour p i j)
       there r c e = colour-around H W p i j r c h w ∙ (e ∙ colour-diagonal p i j)
 
   -- of a green site's direct neighbours two are red and two blue
   pub beside-colour : colour p i j ≡ green
-      → (c : Colour) × (is-green c ≡ false) × (straight 1 (around H W (colour p) i j) ≡ record { east = c; west = c; south = trade c; north = trade c })
+      → (c : Colour) × (is-green c ≡ false) ×
+      (straight 1 (around H W (colour p) i j) ≡ record { east = c; west = c; south = trade c; north = trade c })
   unfolding straight
   beside-colour e = (
     colour p i (j + 1),

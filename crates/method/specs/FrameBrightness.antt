@@ -7,12 +7,12 @@ use lib.Arith.{digits-lt}
 use lib.IntN.{ℤ, pos, natAbs, _+ℤ_}
 use lib.ListN.{length, getD, length-map}
 use lib.Signed.{_≤ℤ_}
-use Rattle.toolkit.specs.Differences.{as-difference, to-naturals}
+use Rattle.toolkit.specs.Differences.{as-difference}
+use Rattle.toolkit.specs.Orders.{to-naturals}
 use Rattle.frame.specs.Sites.{Frame, Colour, sample, highest-sample}
 use Rattle.frame.specs.Calls.{Admitted}
 use Rattle.frame.specs.Admission.{side-low}
 use Rattle.method.specs.Gradients.{mosaic}
-use Rattle.method.specs.Planes.{output}
 use Rattle.method.specs.Comparison.{number-at, brightened, Keeps-range}
 use Rattle.method.specs.FrameChanges.{number-is-output}
 use Rattle.method.specs.Brightness.{Brighter, output-brighter}
@@ -41,7 +41,9 @@ module _ (k : ℤ) (f : Frame) (a : Admitted f) (keeps : Keeps-range k f) where
   }
     where
       in-range : (n : ℕ) → n < length (f .samples) → getD (map (λ z. natAbs (pos z +ℤ k)) (f .samples)) n 0 ≤ highest-sample
-      in-range n h = rw (getD-map (λ z. natAbs (pos z +ℤ k)) (f .samples) n 0 0 h) (abs-most (pos (getD (f .samples) n 0) +ℤ k) highest-sample (keeps n h .0) (keeps n h .1))
+      in-range n h =
+          rw (getD-map (λ z. natAbs (pos z +ℤ k)) (f .samples) n 0 0 h)
+          (abs-most (pos (getD (f .samples) n 0) +ℤ k) highest-sample (keeps n h .0) (keeps n h .1))
 
   sample-brightened : (i j : ℕ) → i < f .height → j < f .width → pos (sample (brightened k f) i j) ≡ pos (sample f i j) +ℤ k
   unfolding brightened sample
@@ -53,7 +55,13 @@ module _ (k : ℤ) (f : Frame) (a : Admitted f) (keeps : Keeps-range k f) where
   brighter-mosaic : Brighter k (mosaic f) (mosaic (brightened k f))
   unfolding mosaic brightened
   brighter-mosaic = record {
-    sides = record { height-is = refl; width-is = refl; height-low = side-low (a .height-allowed); width-low = side-low (a .width-allowed) };
+    sides = record {
+      height-is =
+          refl;
+      width-is = refl;
+      height-low = side-low (a .height-allowed);
+      width-low = side-low (a .width-allowed);
+    };
     samples = sample-brightened;
     colours = λ i j hi hj. refl;
   }
@@ -62,4 +70,5 @@ module _ (k : ℤ) (f : Frame) (a : Admitted f) (keeps : Keeps-range k f) where
   unfolding mosaic brightened
   number-brightened c i j hi hj =
       number-is-output (brightened k f) c i j hi hj
-      ∙ (output-brighter k (mosaic f) (mosaic (brightened k f)) brighter-mosaic c i j hi hj ∙ ap (λ (x : ℤ). x +ℤ k) (sym (number-is-output f c i j hi hj)))
+      ∙ (output-brighter k (mosaic f) (mosaic (brightened k f)) brighter-mosaic c i j hi hj
+      ∙ ap (λ (x : ℤ). x +ℤ k) (sym (number-is-output f c i j hi hj)))

@@ -1,23 +1,21 @@
 -- A changed frame is admitted, its mosaic is the changed mosaic, and so its numbers stand at the matching points; one change, and
 -- any list of them. Assumes nothing.
-use mathlib.Core.Path.{_≡_, refl, sym, _∙_, ap, ap₂}
-use mathlib.Core.Bool.{Bool, true, false, cond, not}
-use mathlib.Core.List.{List, [], _∷_}
-use Prim.Native.Nat.{ℕ, zero, suc, _+_, _*_, _-_, _/_, _%_, _<_, _≤_}
+use mathlib.Core.Path.{_≡_, refl, sym, _∙_, ap}
+use Prim.Native.Nat.{ℕ, _+_, _*_, _-_, _/_, _%_, _<_, _≤_}
 use native.Mathlib.Omega.{arith}
 use lib.Dec.{T, eqb}
-use lib.IntN.{ℤ, pos}
+use lib.IntN.{pos}
 use lib.ListN.{length, getD}
-use Rattle.toolkit.specs.Tests.{by-test, eqb-eq, eqb-ne, eqb-yes}
-use Rattle.toolkit.specs.Tables.{tabulate, getD-tabulate}
+use Rattle.toolkit.specs.Tests.{by-test}
+use Rattle.toolkit.specs.Tables.{getD-tabulate}
 use Rattle.toolkit.specs.Raster.{raster, length-raster, getD-raster}
-use Rattle.frame.specs.Sites.{Frame, Colour, red, green, blue, sample, highest-sample, side-allowed, phase-allowed, colour, mirrored-phase, flipped-phase, transposed-phase, traded-phase}
-use Rattle.frame.specs.Colours.{trade, by-phase, colour-mirrored, colour-flipped, colour-transposed, colour-traded}
+use Rattle.frame.specs.Sites.{Frame, Colour, sample, highest-sample, side-allowed, phase-allowed, colour, mirrored-phase, flipped-phase, transposed-phase, traded-phase}
+use Rattle.frame.specs.Colours.{by-phase, colour-mirrored, colour-flipped, colour-transposed, colour-traded}
 use Rattle.frame.specs.Calls.{Admitted}
 use Rattle.frame.specs.Admission.{side-low}
 use Rattle.method.specs.Gradients.{mosaic}
 use Rattle.method.specs.Planes.{output, plane}
-use Rattle.method.specs.Comparison.{number-at, Change, left-right, top-bottom, transposing, trading, matching-row, matching-column, changed-height, changed-width, changed-phase, changed-samples, changed, changed-by, row-after, column-after, count-trades, trades-oddly, name-after}
+use Rattle.method.specs.Comparison.{number-at, Change, left-right, top-bottom, transposing, trading, matching-row, matching-column, changed-height, changed-width, changed-phase, changed-samples, changed}
 use Rattle.method.specs.Acceptance.{sample-in-range}
 use Rattle.method.specs.MosaicChanges.{act-colour, Changed, output-both}
 
@@ -29,9 +27,11 @@ module _ (f : Frame) where
       → sample (changed g f) (matching-row g (f .height) (f .width) i j) (matching-column g (f .height) (f .width) i j) ≡ sample f i j
   unfolding changed changed-samples sample
   sample-matches left-right i j hi hj =
-      getD-raster (f .height) (f .width) _ i (f .width - 1 - j) 0 hi (omega arith) ∙ ap (λ (k : ℕ). getD (f .samples) (i * f .width + k) 0) (omega arith)
+      getD-raster (f .height) (f .width) _ i (f .width - 1 - j) 0 hi (omega arith)
+      ∙ ap (λ (k : ℕ). getD (f .samples) (i * f .width + k) 0) (omega arith)
   sample-matches top-bottom i j hi hj =
-      getD-raster (f .height) (f .width) _ (f .height - 1 - i) j 0 (omega arith) hj ∙ ap (λ (k : ℕ). getD (f .samples) (k * f .width + j) 0) (omega arith)
+      getD-raster (f .height) (f .width) _ (f .height - 1 - i) j 0 (omega arith) hj
+      ∙ ap (λ (k : ℕ). getD (f .samples) (k * f .width + j) 0) (omega arith)
   sample-matches transposing i j hi hj = getD-raster (f .width) (f .height) _ j i 0 hj hi
   sample-matches trading i j hi hj = refl
 
@@ -69,14 +69,16 @@ changed-sides transposing P h w = (w, h)
 changed-sides trading P h w = (h, w)
 
 module _ (f : Frame) (a : Admitted f) where
-  changed-count : (g : Change) → length (changed-samples g f) ≡ changed-height g (f .height) (f .width) * changed-width g (f .height) (f .width)
+  changed-count : (g : Change)
+      → length (changed-samples g f) ≡ changed-height g (f .height) (f .width) * changed-width g (f .height) (f .width)
   unfolding changed-samples
   changed-count left-right = length-raster _ _ _
   changed-count top-bottom = length-raster _ _ _
   changed-count transposing = length-raster _ _ _
   changed-count trading = a .samples-count
 
-  raster-in-range : (H W : ℕ) (q : ℕ → ℕ → ℕ) → ((i j : ℕ) → q i j ≤ highest-sample) → (k : ℕ) → k < length (raster H W q) → getD (raster H W q) k 0 ≤ highest-sample
+  raster-in-range : (H W : ℕ) (q : ℕ → ℕ → ℕ) → ((i j : ℕ) → q i j ≤ highest-sample) → (k : ℕ) → k < length (raster H W q)
+      → getD (raster H W q) k 0 ≤ highest-sample
   unfolding raster
   raster-in-range H W q each k h = rw (getD-tabulate (H * W) (λ k. q (k / W) (k % W)) k 0 (omega (arith, length-raster H W q))) (each _ _)
 
@@ -100,7 +102,13 @@ module _ (f : Frame) (a : Admitted f) where
   changed-mosaic : (g : Change) → Changed g (mosaic f) (mosaic (changed g f))
   unfolding mosaic changed
   changed-mosaic g = record {
-    sides = record { height-is = refl; width-is = refl; height-low = side-low (a .height-allowed); width-low = side-low (a .width-allowed) };
+    sides = record {
+      height-is =
+          refl;
+      width-is = refl;
+      height-low = side-low (a .height-allowed);
+      width-low = side-low (a .width-allowed);
+    };
     samples = λ i j hi hj. ap pos (sample-matches f g i j hi hj);
     colours = λ i j hi hj. colour-matches g (f .height) (f .width) (f .phase) i j (a .phase-is-allowed) hi hj;
   }

@@ -47,7 +47,8 @@ six-tap Z r c =
 unfoldable pub six-tap-pair : Around ℤ → ℤ → ℤ → ℕ
 six-tap-pair Z r c = natAbs (six-tap Z r c) + natAbs (six-tap Z r (c +ℤ pos 1))
 
--- "With the paper's weight 3/2 and everything times 8, the eastbound gradient is E(i,j) = 8·|Z(i,j) − Z(i,j+2)| + 2·a(i,j) + a(i−1,j) + a(i+1,j)", c columns to the right
+-- "With the paper's weight 3/2 and everything times 8, the eastbound gradient is
+-- E(i,j) = 8·|Z(i,j) − Z(i,j+2)| + 2·a(i,j) + a(i−1,j) + a(i+1,j)", c columns to the right
 unfoldable pub eastbound : Around ℤ → ℤ → ℕ
 eastbound Z c =
     8 * apart (Z (pos 0) c) (Z (pos 0) (c +ℤ pos 2)) + 2 * six-tap-pair Z (pos 0) c

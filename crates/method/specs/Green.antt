@@ -1,8 +1,8 @@
 -- Document 01, "Green". Definitions alone; their laws are in `GreenLaws`. Assumes nothing.
-use mathlib.Core.Bool.{Bool, true, false, cond, _&&_}
+use mathlib.Core.Bool.{cond, _&&_}
 use Prim.Native.Nat.{ℕ, zero, suc, _+_, _*_, min, max}
 use lib.Dec.{ltb, eqb}
-use lib.IntN.{ℤ, pos, negsuc, negℤ, natAbs, _+ℤ_, _-ℤ_, _*ℤ_}
+use lib.IntN.{ℤ, pos, negsuc, negℤ, _+ℤ_, _-ℤ_, _*ℤ_}
 use lib.Signed.{shrZ}
 use Rattle.frame.specs.Sites.{Around}
 use Rattle.method.specs.Gradients.{Mosaic, around-in, samples-around, exchanged, apart, Directions, gradients-at}
@@ -11,7 +11,8 @@ use Rattle.method.specs.Gradients.{Mosaic, around-in, samples-around, ex
 pub data Direction : Type 0 where
   horizontal vertical diagonal : Direction
 
--- "At a red site, X is red; at a blue site, blue.": the sample of the site itself. "Green estimates are in eighths. gH is 8 times [(G left + G right)/2 + (2X − X two left − X two right)/4];"
+-- "At a red site, X is red; at a blue site, blue.": the sample of the site itself.
+-- "Green estimates are in eighths. gH is 8 times [(G left + G right)/2 + (2X − X two left − X two right)/4];"
 unfoldable pub line-estimate : ℤ → ℤ → ℤ → ℤ → ℤ → ℤ
 line-estimate G-left G-right X X-two-left X-two-right =
     pos 4 *ℤ (G-left +ℤ G-right) +ℤ pos 2 *ℤ (pos 2 *ℤ X -ℤ X-two-left -ℤ X-two-right)

@@ -1,11 +1,12 @@
 -- A weighted mean is the same when its four values and gradients change places together. Assumes nothing.
-use mathlib.Core.Path.{_≡_, refl, sym, _∙_, ap, ap₂}
-use Prim.Native.Nat.{ℕ, _+_, _*_}
+use mathlib.Core.Path.{_≡_, refl, _∙_, ap₂}
+use Prim.Native.Nat.{ℕ}
 use native.Mathlib.Omega.{arith}
-use lib.IntN.{ℤ, _+ℤ_}
-use Rattle.toolkit.specs.Differences.{as-difference, to-naturals}
+use lib.IntN.{ℤ}
+use Rattle.toolkit.specs.Differences.{as-difference}
+use Rattle.toolkit.specs.Orders.{to-naturals}
 use Rattle.method.specs.Gradients.{Directions}
-use Rattle.method.specs.Planes.{inner-round, count-zeros, weight, weights, times, sum-of-four, weighted-sum, total, weighted-mean}
+use Rattle.method.specs.Planes.{inner-round, count-zeros, weight, weights, sum-of-four, weighted-sum, total, weighted-mean}
 use Rattle.method.specs.ColourLaws.{Directions-path}
 use Rattle.method.specs.Comparison.{Change, left-right, top-bottom, transposing, trading}
 use Rattle.method.specs.SiteChanges.{act-directions, act-corners}
@@ -56,21 +57,26 @@ mean-pairs : (v : Directions ℤ) (d : Directions ℕ) → weighted-mean (rotate
 mean-pairs v d = mean-rotated (rotated v) (rotated d) ∙ mean-rotated v d
 
 -- S with N
-mean-last : (v : Directions ℤ) (d : Directions ℕ) → weighted-mean (act-directions top-bottom v) (act-directions top-bottom d) ≡ weighted-mean v d
-mean-last v d = mean-pairs (swapped (rotated (rotated v))) (swapped (rotated (rotated d))) ∙ (mean-swapped (rotated (rotated v)) (rotated (rotated d)) ∙ mean-pairs v d)
+mean-last : (v : Directions ℤ) (d : Directions ℕ)
+    → weighted-mean (act-directions top-bottom v) (act-directions top-bottom d) ≡ weighted-mean v d
+mean-last v d = mean-pairs (swapped (rotated (rotated v))) (swapped (rotated (rotated d)))
+    ∙ (mean-swapped (rotated (rotated v)) (rotated (rotated d)) ∙ mean-pairs v d)
 
 -- ---- the changes of a frame
 
-pub mean-directions : (g : Change) (v : Directions ℤ) (d : Directions ℕ) → weighted-mean (act-directions g v) (act-directions g d) ≡ weighted-mean v d
+pub mean-directions : (g : Change) (v : Directions ℤ) (d : Directions ℕ)
+    → weighted-mean (act-directions g v) (act-directions g d) ≡ weighted-mean v d
 mean-directions left-right v d = mean-swapped v d
 mean-directions top-bottom v d = mean-last v d
 mean-directions transposing v d = mean-pairs v d
 mean-directions trading v d = refl
 
-pub mean-corners : (g : Change) (v : Directions ℤ) (d : Directions ℕ) → weighted-mean (act-corners g v) (act-corners g d) ≡ weighted-mean v d
+pub mean-corners : (g : Change) (v : Directions ℤ) (d : Directions ℕ)
+    → weighted-mean (act-corners g v) (act-corners g d) ≡ weighted-mean v d
 mean-corners left-right v d = mean-swapped (act-directions top-bottom v) (act-directions top-bottom d) ∙ mean-last v d
 mean-corners top-bottom v d = mean-pairs v d
 mean-corners transposing v d =
     mean-rotated (swapped (rotated (rotated (rotated v)))) (swapped (rotated (rotated (rotated d))))
-    ∙ (mean-swapped (rotated (rotated (rotated v))) (rotated (rotated (rotated d))) ∙ (mean-rotated (rotated (rotated v)) (rotated (rotated d)) ∙ mean-pairs v d))
+    ∙ (mean-swapped (rotated (rotated (rotated v))) (rotated (rotated (rotated d)))
+    ∙ (mean-rotated (rotated (rotated v)) (rotated (rotated d)) ∙ mean-pairs v d))
 mean-corners trading v d = refl

@@ -1,11 +1,10 @@
 -- Laws of the weights: where no gradient is 0, weight times gradient is the same for all four, and some weight is above 0 always.
 -- Assumes nothing.
-use mathlib.Core.Path.{_≡_, refl, sym, _∙_, ap, ap₂}
-use mathlib.Core.Bool.{Bool, true, false, cond}
+use mathlib.Core.Path.{_≡_}
 use Prim.Native.Nat.{ℕ, zero, suc, _+_, _*_, _<_, _≤_}
 use native.Mathlib.Nat.{mul-pos}
 use native.Mathlib.Omega.{arith}
-use lib.Dec.{ltb, eqb}
+use lib.Dec.{ltb}
 use Rattle.toolkit.specs.Tests.{by-test, ltb-lt, ltb-ge}
 use Rattle.method.specs.Gradients.{Directions}
 use Rattle.method.specs.Planes.{one-if-zero, count-zeros, weight, weights, total}
@@ -33,7 +32,8 @@ total-above g = by-test (ltb 0 (count-zeros g)) _ (λ t. rw t (some (ltb-lt _ _ 
     some : 0 < count-zeros g → 0 < one-if-zero (g .east) + one-if-zero (g .west) + one-if-zero (g .south) + one-if-zero (g .north)
     some h = h
 
-    none : count-zeros g ≤ 0 → 0 < g .west * g .south * g .north + g .east * g .south * g .north + g .east * g .west * g .north + g .east * g .west * g .south
+    none : count-zeros g ≤ 0
+        → 0 < g .west * g .south * g .north + g .east * g .south * g .north + g .east * g .west * g .north + g .east * g .west * g .south
     none h =
         let pw : 0 < g .west = one-if-zero-above _ (omega arith) in
         let ps : 0 < g .south = one-if-zero-above _ (omega arith) in

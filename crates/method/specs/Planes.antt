@@ -1,7 +1,7 @@
 -- Document 01, "Differences and planes". Definitions alone; their laws are in `MeanLaws` and `ColourLaws`. Assumes nothing.
 use mathlib.Core.Bool.{Bool, true, false, cond}
 use mathlib.Core.List.{List}
-use Prim.Native.Nat.{ℕ, zero, suc, _+_, _*_, _-_}
+use Prim.Native.Nat.{ℕ, _+_, _*_, _-_}
 use lib.Dec.{ltb, eqb}
 use lib.IntN.{ℤ, pos, negℤ, _+ℤ_, _-ℤ_, _*ℤ_}
 use Rattle.toolkit.specs.Raster.{raster}
@@ -61,7 +61,14 @@ green-difference m i j = less-eight (green-at m i j) (m .sample-at i j)
 
 -- what stands k columns east and west, k rows south and north
 unfoldable pub straight : {X : Type 0} → ℕ → Around X → Directions X
-straight k N = record { east = N (pos 0) (pos k); west = N (pos 0) (negℤ (pos k)); south = N (pos k) (pos 0); north = N (negℤ (pos k)) (pos 0) }
+straight k N =
+    record {
+      east =
+          N (pos 0) (pos k);
+      west = N (pos 0) (negℤ (pos k));
+      south = N (pos k) (pos 0);
+      north = N (negℤ (pos k)) (pos 0);
+    }
 
 -- "M is the weighted mean of D two columns east and west, two rows south and north, under E, W, S, N."
 unfoldable pub mean-two-off : Mosaic → ℕ → ℕ → ℤ

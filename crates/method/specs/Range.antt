@@ -1,20 +1,19 @@
 -- Where the outputs lie: samples from 0 to T give outputs from −2T to 3T, stage by stage. Assumes nothing.
-use mathlib.Core.Path.{_≡_, refl, sym, _∙_, ap, ap₂}
-use mathlib.Core.Bool.{Bool, true, false, cond}
-use Prim.Native.Nat.{ℕ, _+_, _*_, _-_, _<_, _≤_}
+use mathlib.Core.Path.{_≡_, ap₂}
+use Prim.Native.Nat.{ℕ, _+_, _*_, _<_, _≤_}
 use native.Mathlib.Nat.{mul-le-mul-left}
 use native.Mathlib.Omega.{arith}
 use lib.IntN.{ℤ, pos, negℤ, _+ℤ_, _-ℤ_, _*ℤ_}
 use lib.Signed.{_≤ℤ_}
 use Rattle.toolkit.specs.Tests.{by-test}
-use Rattle.toolkit.specs.Differences.{as-difference, to-naturals}
-use Rattle.toolkit.specs.IntegerLaws.{Ranged}
+use Rattle.toolkit.specs.Differences.{as-difference}
+use Rattle.toolkit.specs.Orders.{Ranged, to-naturals}
 use Rattle.toolkit.specs.Rounding.{round-half-up, round-least, round-most}
 use Rattle.frame.specs.Sites.{Colour, green, Around, around}
 use Rattle.frame.specs.Reflection.{reflect-lt, reflect-here}
-use Rattle.method.specs.Gradients.{Mosaic, around-in, samples-around, exchanged, Directions, gradients-at}
+use Rattle.method.specs.Gradients.{Mosaic, around-in, samples-around, Directions}
 use Rattle.method.specs.Green.{Direction, horizontal, vertical, diagonal, line-estimate, horizontal-estimate, estimate, green-or, less-eight, green-at}
-use Rattle.method.specs.Planes.{inner-round, weights, times, sum-of-four, weighted-sum, total, weighted-mean, green-difference, straight, mean-two-off, fusion-share, fused, final-difference, same, diagonally, corners, corner-gradients, chroma-site-difference, colour-difference, green-quarters, quarters, final-round, output}
+use Rattle.method.specs.Planes.{inner-round, times, sum-of-four, weighted-sum, total, weighted-mean, green-difference, straight, mean-two-off, fusion-share, fused, final-difference, same, diagonally, corners, chroma-site-difference, colour-difference, green-quarters, quarters, final-round, output}
 use Rattle.method.specs.GreenLaws.{diagonal-is-whole}
 use Rattle.method.specs.MeanLaws.{total-above}
 
@@ -38,14 +37,17 @@ module _ (T : ℕ) where
   line-ranged : (l r x y z : ℤ) → Ranged 0 T l → Ranged 0 T r → Ranged 0 T x → Ranged 0 T y → Ranged 0 T z
       → Ranged (8 * T) (8 * T) (less-eight (line-estimate l r x y z) x)
   unfolding less-eight line-estimate
-  line-ranged l r x y z = rw (as-difference l, as-difference r, as-difference x, as-difference y, as-difference z) (simp to-naturals (omega arith))
+  line-ranged l r x y z =
+      rw (as-difference l, as-difference r, as-difference x, as-difference y, as-difference z) (simp to-naturals (omega arith))
 
   -- a number midway between two
-  midway-ranged : (B : ℕ) (g h d x : ℤ) → pos 2 *ℤ d ≡ g +ℤ h → Ranged B B (less-eight g x) → Ranged B B (less-eight h x) → Ranged B B (less-eight d x)
+  midway-ranged : (B : ℕ) (g h d x : ℤ) → pos 2 *ℤ d ≡ g +ℤ h → Ranged B B (less-eight g x) → Ranged B B (less-eight h x)
+      → Ranged B B (less-eight d x)
   unfolding less-eight
   midway-ranged B g h d x = rw (as-difference g, as-difference h, as-difference d, as-difference x) (simp to-naturals (omega arith))
 
-  estimate-ranged : (k : Direction) (Z : Around ℤ) → ((r c : ℤ) → Ranged 0 T (Z r c)) → Ranged (8 * T) (8 * T) (less-eight (estimate k Z) (Z (pos 0) (pos 0)))
+  estimate-ranged : (k : Direction) (Z : Around ℤ) → ((r c : ℤ) → Ranged 0 T (Z r c))
+      → Ranged (8 * T) (8 * T) (less-eight (estimate k Z) (Z (pos 0) (pos 0)))
   unfolding estimate horizontal-estimate
   estimate-ranged horizontal Z s = line-ranged _ _ _ _ _ (s _ _) (s _ _) (s _ _) (s _ _) (s _ _)
   estimate-ranged vertical Z s = line-ranged _ _ _ _ _ (s _ _) (s _ _) (s _ _) (s _ _) (s _ _)
@@ -65,9 +67,12 @@ pub record Four (P : ℤ → Type 0) (v : Directions ℤ) : Type 0 where
 module _ (B : ℕ) where
   times-ranged : (w : ℕ) (v : ℤ) → Ranged B B v → Ranged (B * w) (B * w) (times w v)
   unfolding times
-  times-ranged w v = rw (as-difference v) (simp to-naturals (λ h. (omega (arith, mul-le-mul-left w (h .0)), omega (arith, mul-le-mul-left w (h .1)))))
+  times-ranged w v =
+      rw (as-difference v)
+      (simp to-naturals (λ h. (omega (arith, mul-le-mul-left w (h .0)), omega (arith, mul-le-mul-left w (h .1)))))
 
-  sum-ranged : (a b c d : ℕ) (x y z u : ℤ) → Ranged (B * a) (B * a) x → Ranged (B * b) (B * b) y → Ranged (B * c) (B * c) z → Ranged (B * d) (B * d) u
+  sum-ranged : (a b c d : ℕ) (x y z u : ℤ) → Ranged (B * a) (B * a) x → Ranged (B * b) (B * b) y → Ranged (B * c) (B * c) z
+      → Ranged (B * d) (B * d) u
       → Ranged (B * (a + b + c + d)) (B * (a + b + c + d)) (sum-of-four x y z u)
   unfolding sum-of-four
   sum-ranged a b c d x y z u = rw (as-difference x, as-difference y, as-difference z, as-difference u) (simp to-naturals (omega arith))
@@ -75,7 +80,8 @@ module _ (B : ℕ) where
   pub mean-ranged : (v : Directions ℤ) (g : Directions ℕ) → Four (Ranged B B) v → Ranged B B (weighted-mean v g)
   unfolding weighted-mean weighted-sum total inner-round
   mean-ranged v g r = round-ranged B B _ _ (total-above g)
-      (sum-ranged _ _ _ _ _ _ _ _ (times-ranged _ _ (r .at-east)) (times-ranged _ _ (r .at-west)) (times-ranged _ _ (r .at-south)) (times-ranged _ _ (r .at-north)))
+      (sum-ranged _ _ _ _ _ _ _ _ (times-ranged _ _ (r .at-east)) (times-ranged _ _ (r .at-west)) (times-ranged _ _ (r .at-south))
+      (times-ranged _ _ (r .at-north)))
 
   fused-ranged : (D M : ℤ) → Ranged (2 * B) (2 * B) D → Ranged (2 * B) (2 * B) M → Ranged B B (fused D M)
   unfolding fused inner-round fusion-share
@@ -142,17 +148,25 @@ module _ (T : ℕ) (m : Mosaic) (s : Samples-ranged T m) where
   unfolding final-difference mean-two-off
   final-difference-ranged i j hi hj =
       fused-ranged (4 * T) _ _ (doubled T _ (green-difference-ranged i j hi hj)) (doubled T _
-      (mean-ranged (8 * T) _ _ (straight-four (Ranged (8 * T) (8 * T)) 2 _ (around-ranged (Ranged (8 * T) (8 * T)) (green-difference m) green-difference-ranged i j))))
+      (mean-ranged (8 * T) _ _
+      (straight-four (Ranged (8 * T) (8 * T)) 2 _
+      (around-ranged (Ranged (8 * T) (8 * T)) (green-difference m) green-difference-ranged i j))))
 
   chroma-site-ranged : (c : Colour) → Everywhere (Ranged (4 * T) (4 * T)) (chroma-site-difference m c)
   unfolding chroma-site-difference
   chroma-site-ranged c i j hi hj = by-test (same (m .colour-at i j) c) _ (λ t. rw t (final-difference-ranged i j hi hj))
-      (λ t. rw t (mean-ranged (4 * T) _ _ (corners-four (Ranged (4 * T) (4 * T)) _ (around-ranged (Ranged (4 * T) (4 * T)) (final-difference m) final-difference-ranged i j))))
+      (λ t. rw t
+      (mean-ranged (4 * T) _ _
+      (corners-four (Ranged (4 * T) (4 * T)) _
+      (around-ranged (Ranged (4 * T) (4 * T)) (final-difference m) final-difference-ranged i j))))
 
   colour-difference-ranged : (c : Colour) → Everywhere (Ranged (4 * T) (4 * T)) (colour-difference m c)
   unfolding colour-difference
   colour-difference-ranged c i j hi hj = by-test (same (m .colour-at i j) green) _
-      (λ t. rw t (mean-ranged (4 * T) _ _ (straight-four (Ranged (4 * T) (4 * T)) 1 _ (around-ranged (Ranged (4 * T) (4 * T)) (chroma-site-difference m c) (chroma-site-ranged c) i j))))
+      (λ t. rw t
+      (mean-ranged (4 * T) _ _
+      (straight-four (Ranged (4 * T) (4 * T)) 1 _
+      (around-ranged (Ranged (4 * T) (4 * T)) (chroma-site-difference m c) (chroma-site-ranged c) i j))))
       (λ t. rw t (chroma-site-ranged c i j hi hj))
 
   green-quarters-ranged : Everywhere (Ranged (4 * T) (8 * T)) (green-quarters m)

@@ -1,14 +1,15 @@
 -- What a change of the frame does at one site: to what stands around it, to its gradients, its green estimates, its first pass and
 -- its second. Each law says that a function of the changed surroundings is the changed value of the function. Assumes nothing.
-use mathlib.Core.Path.{_≡_, refl, sym, _∙_, ap, ap₂}
-use mathlib.Core.Bool.{Bool, true, false, cond, _&&_}
+use mathlib.Core.Path.{_≡_, refl, sym, _∙_, ap}
+use mathlib.Core.Bool.{false}
 use Prim.Native.Nat.{ℕ, zero, suc, _+_, _*_, _<_, _≤_, min, max}
 use native.Mathlib.Nat.{min-comm, max-comm}
 use native.Mathlib.Omega.{arith}
 use lib.Dec.{ltb, eqb}
-use lib.IntN.{ℤ, pos, negsuc, negℤ, natAbs, _+ℤ_, _-ℤ_, _*ℤ_, +ℤ-comm, negℤ-negℤ}
+use lib.IntN.{ℤ, pos, negsuc, negℤ, natAbs, _+ℤ_, _*ℤ_, +ℤ-comm, negℤ-negℤ}
 use Rattle.toolkit.specs.Tests.{by-test, ltb-lt, ltb-ge, ltb-yes, ltb-no, eqb-ne, eqb-comm}
-use Rattle.toolkit.specs.Differences.{as-difference, to-naturals}
+use Rattle.toolkit.specs.Differences.{as-difference}
+use Rattle.toolkit.specs.Orders.{to-naturals}
 use Rattle.frame.specs.Sites.{Around}
 use Rattle.method.specs.Gradients.{exchanged, apart, taps, six-tap, six-tap-pair, eastbound, east-gradient, west-gradient, Directions, gradients}
 use Rattle.method.specs.Green.{Direction, horizontal, vertical, diagonal, line-estimate, horizontal-estimate, half, estimate, threshold, Outcome, equal, strong-across, strong-down, weak, outcome, first-pass, first-pass-or, reach, sum-about, column-sum, horizontal-sum, vertical-sum, diagonal-sum, least-sum, second-pass}
@@ -68,7 +69,8 @@ act-outcome trading o = o
 taps-backwards : (a b c d e f : ℤ) → taps a b c d e f ≡ taps f e d c b a
 unfolding taps
 taps-backwards a b c d e f =
-    rw (as-difference a, as-difference b, as-difference c, as-difference d, as-difference e, as-difference f) (simp to-naturals (omega arith))
+    rw (as-difference a, as-difference b, as-difference c, as-difference d, as-difference e, as-difference f)
+    (simp to-naturals (omega arith))
 
 pub apart-comm : (x y : ℤ) → apart x y ≡ apart y x
 unfolding apart
@@ -85,7 +87,14 @@ pair-mirrored Z r = omega (
 
 east-mirrored : (Z : Around ℤ) → east-gradient (act left-right Z) ≡ west-gradient Z
 unfolding east-gradient west-gradient eastbound
-east-mirrored Z = omega (arith, apart-comm (Z (pos 0) (pos 0)) (Z (pos 0) (negsuc 1)), pair-mirrored Z (pos 0), pair-mirrored Z (negℤ (pos 1)), pair-mirrored Z (pos 1))
+east-mirrored Z =
+    omega (
+      arith,
+      apart-comm (Z (pos 0) (pos 0)) (Z (pos 0) (negsuc 1)),
+      pair-mirrored Z (pos 0),
+      pair-mirrored Z (negℤ (pos 1)),
+      pair-mirrored Z (pos 1),
+    )
 
 west-mirrored : (Z : Around ℤ) → west-gradient (act left-right Z) ≡ east-gradient Z
 unfolding east-gradient west-gradient eastbound six-tap-pair six-tap
@@ -97,8 +106,10 @@ eastbound-flipped Z c = omega arith
 
 pub gradients-changed : (g : Change) (Z : Around ℤ) → gradients (act g Z) ≡ act-directions g (gradients Z)
 unfolding gradients east-gradient west-gradient
-gradients-changed left-right Z = Directions-path (east-mirrored Z) (west-mirrored Z) (eastbound-flipped (exchanged Z) _) (eastbound-flipped (exchanged Z) _)
-gradients-changed top-bottom Z = Directions-path (eastbound-flipped Z _) (eastbound-flipped Z _) (east-mirrored (exchanged Z)) (west-mirrored (exchanged Z))
+gradients-changed left-right Z =
+    Directions-path (east-mirrored Z) (west-mirrored Z) (eastbound-flipped (exchanged Z) _) (eastbound-flipped (exchanged Z) _)
+gradients-changed top-bottom Z =
+    Directions-path (eastbound-flipped Z _) (eastbound-flipped Z _) (east-mirrored (exchanged Z)) (west-mirrored (exchanged Z))
 gradients-changed transposing Z = refl
 gradients-changed trading Z = refl
 
@@ -157,7 +168,8 @@ first-pass-changed top-bottom d = ap (λ (v : ℕ). outcome (d .east + d .west) 
 first-pass-changed transposing d = outcome-swapped (d .east + d .west) (d .south + d .north)
 first-pass-changed trading d = refl
 
-pub first-pass-or-changed : (g : Change) (o : Outcome) (k : Direction) → first-pass-or (act-outcome g o) (act-direction g k) ≡ act-direction g (first-pass-or o k)
+pub first-pass-or-changed : (g : Change) (o : Outcome) (k : Direction)
+    → first-pass-or (act-outcome g o) (act-direction g k) ≡ act-direction g (first-pass-or o k)
 first-pass-or-changed left-right o k = refl
 first-pass-or-changed top-bottom o k = refl
 first-pass-or-changed transposing equal k = refl
@@ -201,14 +213,26 @@ least-sum-swapped FH FV FD = by-test (ltb FH FV) _
     rw (x, ltb-no {m = FV} {n = FH} (omega arith)) (by-test (ltb FH FD) _ (λ y. rw y) (λ y. rw y)))
     (λ x. rw x (by-test (ltb FV FH) _ (λ y. rw y (by-test (ltb FV FD) _ (λ z. rw z) (λ z. rw z))) (λ y. rw y)))
 
-pub second-pass-changed : (g : Change) (r : Direction → Around ℤ) → second-pass (λ k. act g (r (act-direction g k))) ≡ act-direction g (second-pass r)
+pub second-pass-changed : (g : Change) (r : Direction → Around ℤ)
+    → second-pass (λ k. act g (r (act-direction g k))) ≡ act-direction g (second-pass r)
 unfolding second-pass horizontal-sum vertical-sum diagonal-sum
 second-pass-changed left-right r =
-    rw (column-sum-mirrored (r horizontal), column-sum-flipped (exchanged (r vertical)), column-sum-mirrored (r diagonal), column-sum-flipped (exchanged (r diagonal)))
+    rw (
+      column-sum-mirrored (r horizontal),
+      column-sum-flipped (exchanged (r vertical)),
+      column-sum-mirrored (r diagonal),
+      column-sum-flipped (exchanged (r diagonal)),
+    )
 second-pass-changed top-bottom r =
-    rw (column-sum-flipped (r horizontal), column-sum-mirrored (exchanged (r vertical)), column-sum-flipped (r diagonal), column-sum-mirrored (exchanged (r diagonal)))
+    rw (
+      column-sum-flipped (r horizontal),
+      column-sum-mirrored (exchanged (r vertical)),
+      column-sum-flipped (r diagonal),
+      column-sum-mirrored (exchanged (r diagonal)),
+    )
 second-pass-changed transposing r =
-    ap (λ (s : ℕ). least-sum (2 * column-sum (exchanged (r vertical))) (2 * column-sum (r horizontal)) s) (omega arith) ∙ least-sum-swapped _ _ _
+    ap (λ (s : ℕ). least-sum (2 * column-sum (exchanged (r vertical))) (2 * column-sum (r horizontal)) s) (omega arith)
+    ∙ least-sum-swapped _ _ _
 second-pass-changed trading r = refl
 
 -- ---- neighbours
