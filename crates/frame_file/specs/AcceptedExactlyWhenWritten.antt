@@ -13,7 +13,7 @@ use Rattle.frame.specs.Sites.{Frame, highest-sample}
 use Rattle.frame.specs.Calls.{Admitted}
 use Rattle.frame.specs.Admission.{and-true}
 use Rattle.frame_file.specs.Lists.{part, length-part, joined, joined-cong, joined-parts, length-joined, all-zero, Below, below-part, below-joined}
-use Rattle.frame_file.specs.FrameFile.{sample-count, block, header, payload, block-filler, block-samples, block-count, file-length, unpacked-payload, written-block, written-file, stored-frame, filler-holds, accepted, read-outcome}
+use Rattle.frame_file.specs.FrameFile.{stored-samples, sample-count, block, header, payload, block-filler, block-samples, block-count, file-length, unpacked-payload, written-block, written-file, stored-frame, filler-holds, accepted, read-outcome}
 use Rattle.frame_file.specs.Raw10.{length-unpacked-payload, below-unpacked-payload}
 use Rattle.frame_file.specs.BlockSamples.{block-samples-joined}
 use Rattle.frame_file.specs.BlocksFromTests.{header-from-tests, samples-from-tests}
@@ -32,7 +32,7 @@ module _ (file : List ℕ) (bytes : Below 256 file) (room : ℕ) (p : HeaderPass
   block-bytes n = below-part 256 file (512 * n) 512 bytes
 
   first-block : block file 0 ≡ written-block (stored-frame file) 0
-  unfolding written-block stored-frame
+  unfolding written-block stored-frame stored-samples
   first-block =
       header-from-tests (block file 0) (whole-block 0 some) (block-bytes 0) (p .check) (p .number) (allowed-header (block file 0) (p .allowed) .tagged) (p .filler)
     where
@@ -41,7 +41,7 @@ module _ (file : List ℕ) (bytes : Below 256 file) (room : ℕ) (p : HeaderPass
 
   later-block : (n : ℕ) → suc n < block-count (sample-count (stored-frame file))
       → Passes file (sample-count (stored-frame file)) (suc n) → block file (suc n) ≡ written-block (stored-frame file) (suc n)
-  unfolding written-block stored-frame filler-holds
+  unfolding written-block stored-frame stored-samples filler-holds
   later-block n h q =
       let m : ℕ = sample-count (stored-frame file) in
       let stored : ℕ → List ℕ = λ i. unpacked-payload (payload file (suc i)) in
@@ -50,7 +50,7 @@ module _ (file : List ℕ) (bytes : Below 256 file) (room : ℕ) (p : HeaderPass
       let samples : block-samples (stored-frame file .samples) (suc n) ≡ unpacked-payload (payload file (suc n)) =
       block-samples-joined m (block-count m - 1) stored (λ i. length-unpacked-payload (payload file (suc i))) n (omega arith)
       (subst (λ (k : ℕ). all-zero (drop (m - 400 * k) (stored n)) ≡ true) one (fillers .1)) in
-      samples-from-tests (block file (suc n)) (whole-block (suc n) h) (block-bytes (suc n)) (stored-frame file .samples) (suc n) (q .check) (q .number) (fillers .0)
+      samples-from-tests (block file (suc n)) (whole-block (suc n) h) (block-bytes (suc n)) (suc n) (block-samples (stored-frame file .samples) (suc n)) (q .check) (q .number) (fillers .0)
       (samples ∙ ap unpacked-payload (payload-of-block file (suc n)))
 
   file-is-written : ((n : ℕ) → 1 ≤ n → n < block-count (sample-count (stored-frame file)) → Passes file (sample-count (stored-frame file)) n)
@@ -63,7 +63,7 @@ module _ (file : List ℕ) (bytes : Below 256 file) (room : ℕ) (p : HeaderPass
       ∙ joined-cong c (block file) (written-block (stored-frame file)) (elim [ zero ↦ λ h. first-block | suc n ↦ λ h. later-block n h (each (suc n) (omega arith) h) ])
 
   stored-samples-below : Below 1024 (stored-frame file .samples)
-  unfolding stored-frame payload part
+  unfolding stored-frame stored-samples payload part
   stored-samples-below =
       let m : ℕ = sample-count (stored-frame file) in
       let stored : ℕ → List ℕ = λ i. unpacked-payload (payload file (suc i)) in
@@ -71,7 +71,7 @@ module _ (file : List ℕ) (bytes : Below 256 file) (room : ℕ) (p : HeaderPass
       (below-joined 1024 (block-count m - 1) stored (omega arith) (λ i. below-unpacked-payload (payload file (suc i)) (below-part 256 file (512 * suc i + 4) 500 bytes)))
 
   stored-samples-count : length (stored-frame file .samples) ≡ sample-count (stored-frame file)
-  unfolding stored-frame
+  unfolding stored-frame stored-samples
   stored-samples-count =
       let m : ℕ = header (block file 0) .height * header (block file 0) .width in
       let stored : ℕ → List ℕ = λ i. unpacked-payload (payload file (suc i)) in
@@ -79,7 +79,7 @@ module _ (file : List ℕ) (bytes : Below 256 file) (room : ℕ) (p : HeaderPass
       length-take m (joined (block-count m - 1) stored) ∙ omega (arith, size, blocks-hold m)
 
   stored-frame-admitted : Admitted (stored-frame file)
-  unfolding stored-frame highest-sample
+  unfolding stored-frame stored-samples highest-sample
   stored-frame-admitted =
       let a = allowed-header (block file 0) (p .allowed) in
       record {

@@ -6,7 +6,7 @@ use Prim.Native.Nat.{ℕ, suc, _+_, _*_, _-_, _≤_, _<_}
 use native.Mathlib.Omega.{arith}
 use lib.ListN.{length, getD, take, drop, length-append, length-take, length-drop, take-append-drop}
 use lib.Seq.{ext-getD, take-take, take-at, drop-append-add}
-use Rattle.frame_file.specs.Lists.{part, length-part, length-part-min, getD-part, part-take, joined, joined-cong, joined-parts, part-joined, zeros, length-zeros, drop-zeros, getD-append-zeros, all-zero, zeros-all-zero, all-zero-zeros}
+use Rattle.frame_file.specs.Lists.{part, length-part, length-part-min, getD-part, part-take, joined, joined-cong, joined-parts, part-joined, zeros, length-zeros, drop-zeros, getD-append-zeros, all-zero, zeros-all-zero, all-zero-zeros, Below, below-append, below-part, below-zeros}
 use Rattle.frame_file.specs.FrameFile.{filled-up, block-samples}
 
 pub length-filled-up : (s : List ℕ) → length s ≤ 400 → length (filled-up s) ≡ 400
@@ -16,6 +16,10 @@ length-filled-up s h = omega (arith, length-append s (zeros (400 - length s)), l
 pub length-block-samples : (s : List ℕ) (n : ℕ) → length (block-samples s n) ≡ 400
 unfolding block-samples
 length-block-samples s n = length-filled-up (part s (400 * (n - 1)) 400) (omega (arith, length-part-min s (400 * (n - 1)) 400))
+
+pub below-block-samples : (b : ℕ) (s : List ℕ) (n : ℕ) → 0 < b → Below b s → Below b (block-samples s n)
+unfolding block-samples filled-up
+below-block-samples b s n p h = below-append b (part s (400 * (n - 1)) 400) _ (below-part b s (400 * (n - 1)) 400 h) (below-zeros b _ p)
 
 -- 400 samples that are zero from the u-th on are the first u of them, filled up
 pub filled-up-front : (s : List ℕ) (u : ℕ) → length s ≡ 400 → all-zero (drop u s) ≡ true → filled-up (take u s) ≡ s

@@ -8,7 +8,7 @@ use lib.ListN.{length, getD}
 use lib.Seq.{drop-cons}
 use Rattle.toolkit.specs.Tests.{eqb-eq}
 use Rattle.frame_file.specs.Lists.{part, length-part, part-split, zeros, all-zero, all-zero-zeros, same-equal, Below, below-part}
-use Rattle.frame_file.specs.FrameFile.{little-endian-bytes, tag, has-tag, header, header-filler, block-number, block-filler, block-samples, packed-payload, unpacked-payload, with-check, check-holds, number-holds, header-bytes, sample-bytes}
+use Rattle.frame_file.specs.FrameFile.{little-endian-bytes, tag, has-tag, header, header-filler, block-number, block-filler, packed-payload, unpacked-payload, with-check, check-holds, number-holds, header-bytes, sample-bytes}
 use Rattle.frame_file.specs.LittleEndian.{part-of-number}
 use Rattle.frame_file.specs.Check.{check-holds-with-check}
 use Rattle.frame_file.specs.Raw10.{packed-unpacked-payload}
@@ -50,11 +50,11 @@ module _ (b : List ℕ) (size : length b ≡ 512) (bytes : Below 256 b) where
   payload-part : (s : List ℕ) → s ≡ unpacked-payload (part b 4 500) → part b 4 500 ≡ packed-payload s
   payload-part s e = sym (ap packed-payload e ∙ packed-unpacked-payload (part b 4 500) (length-part b 4 500 (omega arith)) (below-part 256 b 4 500 bytes))
 
-  pub samples-from-tests : (samples : List ℕ) (n : ℕ) → check-holds b ≡ true → number-holds b n ≡ true → all-zero (block-filler b) ≡ true
-      → block-samples samples n ≡ unpacked-payload (part b 4 500) → b ≡ with-check (sample-bytes samples n)
+  pub samples-from-tests : (n : ℕ) (samples : List ℕ) → check-holds b ≡ true → number-holds b n ≡ true → all-zero (block-filler b) ≡ true
+      → samples ≡ unpacked-payload (part b 4 500) → b ≡ with-check (sample-bytes n samples)
   unfolding sample-bytes block-filler
-  samples-from-tests samples n c t z e =
+  samples-from-tests n samples c t z e =
       check-holds-with-check b size bytes c
       ∙ ap with-check (part-split b 0 4 504
       ∙ both-parts (number-part n t) (part-split b 4 500 4
-      ∙ both-parts (payload-part (block-samples samples n) e) (zero-part 504 4 (omega arith) z)))
+      ∙ both-parts (payload-part samples e) (zero-part 504 4 (omega arith) z)))

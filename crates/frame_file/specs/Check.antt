@@ -4,6 +4,7 @@ use mathlib.Core.Bool.{true}
 use mathlib.Core.List.{List, [], _++_, append-nil}
 use Prim.Native.Nat.{ℕ, zero, suc, _+_, _*_, _^_, _≤_, _<_}
 use native.Mathlib.Nat.{le-refl, mul-le-mul}
+use native.Mathlib.Numerals.{add-one}
 use native.Mathlib.Omega.{arith}
 use lib.ListN.{length, getD, length-append, List·getD-append}
 use Rattle.toolkit.specs.Tests.{eqb-eq, eqb-yes}
@@ -16,6 +17,10 @@ unfolding weighted-sum
 weighted-sum-cong zero f g e = refl
 weighted-sum-cong (suc n) f g e =
     ap₂ (λ (a b : ℕ). a + (n + 1) * b) (weighted-sum-cong n f g (λ k h. e k (omega arith))) (e n (le-refl (suc n)))
+
+pub weighted-sum-step : (f : ℕ → ℕ) (k : ℕ) → weighted-sum f (k + 1) ≡ weighted-sum f k + (k + 1) * f k
+unfolding weighted-sum
+weighted-sum-step f k = ap (weighted-sum f) (add-one k)
 
 -- a term is at most 508 · 255
 pub term-bound : (k x : ℕ) → k < 508 → x < 256 → (k + 1) * x ≤ 129540

@@ -135,13 +135,13 @@ unfoldable pub header-bytes : Shape → List ℕ
 header-bytes shape =
     little-endian-bytes 4 0 ++ (tag ++ (little-endian-bytes 2 (shape .width) ++ (little-endian-bytes 2 (shape .height) ++ (shape .phase ∷ zeros 495))))
 
--- block n, from 1, before its check
-unfoldable pub sample-bytes : List ℕ → ℕ → List ℕ
-sample-bytes samples n = little-endian-bytes 4 n ++ (packed-payload (block-samples samples n) ++ zeros 4)
+-- block n, from 1, with its samples, before its check
+unfoldable pub sample-bytes : ℕ → List ℕ → List ℕ
+sample-bytes n samples = little-endian-bytes 4 n ++ (packed-payload samples ++ zeros 4)
 
 unfoldable pub written-block : Frame → ℕ → List ℕ
 written-block f zero = with-check (header-bytes (shape-of f))
-written-block f (suc n) = with-check (sample-bytes (f .samples) (suc n))
+written-block f (suc n) = with-check (sample-bytes (suc n) (block-samples (f .samples) (suc n)))
 
 unfoldable pub written-file : Frame → List ℕ
 written-file f = joined (block-count (sample-count f)) (written-block f)
@@ -156,12 +156,15 @@ file-after-write f before = after (write-answer f (length before)) (written-file
 
 -- ---- reading a file
 
+-- the first so many samples of a file's payloads
+unfoldable pub stored-samples : List ℕ → ℕ → List ℕ
+stored-samples file samples = take samples (joined (block-count samples - 1) (λ i. unpacked-payload (payload file (suc i))))
+
 -- the frame that a file's header and payloads hold
 unfoldable pub stored-frame : List ℕ → Frame
 stored-frame file =
     let shape : Shape = header (block file 0) in
-    let count : ℕ = shape .height * shape .width in
-    frame shape (take count (joined (block-count count - 1) (λ i. unpacked-payload (payload file (suc i)))))
+    frame shape (stored-samples file (shape .height * shape .width))
 
 -- what read finds: a frame, or why there is none
 pub data Outcome : Type 0 where

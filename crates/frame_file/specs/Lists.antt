@@ -4,18 +4,23 @@ use mathlib.Core.Bool.{Bool, true, false, _&&_}
 use mathlib.Core.Logic.{⊎-elim}
 use mathlib.Core.List.{List, [], _∷_, _++_, append-nil, append-assoc}
 use Prim.Native.Nat.{ℕ, zero, suc, _+_, _-_, _*_, _≤_, _<_, min}
-use native.Mathlib.Nat.{sub-zero, zero-sub, suc-sub-suc, eq-or-lt-of-le, mul-suc, mul-le-mul-left, le-refl}
+use native.Mathlib.Nat.{add-sub-cancel-left, sub-zero, zero-sub, suc-sub-suc, eq-or-lt-of-le, mul-suc, mul-le-mul-left, le-refl}
 use native.Mathlib.Numerals.{add-one}
 use native.Mathlib.Omega.{arith}
 use lib.Dec.{leb, eqb}
-use lib.ListN.{length, getD, take, drop, set, replicate, length-append, length-take, length-drop, length-replicate, List·getD-eq-default}
-use lib.Seq.{length-take-le, drop-append-add, take-nil, take-add, take-all, take-take, take-at, drop-at, drop-drop, take-append-le, drop-append-le, getD-take, getD-drop, take-set-le, take-set-lt, drop-set-lt, drop-set-add}
+use lib.ListN.{length, getD, take, drop, set, replicate, length-append, length-take, length-drop, length-replicate, replicate-append-replicate, drop-of-length-le, List·getD-eq-default}
+use lib.Seq.{drop-cons, length-take-le, drop-append-add, take-nil, take-add, take-all, take-take, take-at, drop-at, drop-drop, take-append-le, drop-append-le, getD-take, getD-drop, take-set-le, take-set-lt, drop-set-lt, drop-set-add}
 use Rattle.toolkit.specs.Tests.{by-test, leb-le, leb-gt, eqb-eq, eqb-yes}
 use Rattle.frame.specs.Admission.{and-true}
 
 -- ---- a part of a list: the n entries from position a on
 unfoldable pub part : List ℕ → ℕ → ℕ → List ℕ
 part l a n = take n (drop a l)
+
+-- the slice of the entries from a on, up to and not including a + n
+pub slice-part : (l : List ℕ) (a n : ℕ) → take (a + n - a) (drop a l) ≡ part l a n
+unfolding part
+slice-part l a n = ap (λ (k : ℕ). take k (drop a l)) (add-sub-cancel-left a n)
 
 pub length-part : (l : List ℕ) (a n : ℕ) → a + n ≤ length l → length (part l a n) ≡ n
 unfolding part
@@ -36,6 +41,10 @@ getD-front l n k h = getD-take n l k 0 h
 pub part-split : (l : List ℕ) (a n m : ℕ) → part l a (n + m) ≡ part l a n ++ part l (a + n) m
 unfolding part
 part-split l a n m = take-add n m (drop a l) ∙ ap (λ (t : List ℕ). take n (drop a l) ++ take m t) (drop-drop n a l)
+
+pub part-cons : (l : List ℕ) (a n : ℕ) → a < length l → part l a (suc n) ≡ getD l a 0 ∷ part l (a + 1) n
+unfolding part
+part-cons l a n h = rw (drop-cons l a 0 h, add-one)
 
 pub part-whole : (l : List ℕ) (n : ℕ) → length l ≡ n → part l 0 n ≡ l
 unfolding part
@@ -167,6 +176,10 @@ pub length-zeros : (n : ℕ) → length (zeros n) ≡ n
 unfolding zeros
 length-zeros n = length-replicate n 0
 
+pub zeros-append : (m n : ℕ) → zeros m ++ zeros n ≡ zeros (m + n)
+unfolding zeros
+zeros-append m n = replicate-append-replicate m n 0
+
 pub drop-zeros : (k n : ℕ) → drop k (zeros n) ≡ zeros (n - k)
 unfolding zeros
 drop-zeros zero n = rw sub-zero
@@ -195,6 +208,14 @@ unfolding zeros all-zero
 all-zero-zeros [] e = refl
 all-zero-zeros (x ∷ l) e =
     let t = and-true (eqb x 0) (all-zero l) e in ap₂ (λ (y : ℕ) (m : List ℕ). y ∷ m) (eqb-eq x 0 (t .0)) (all-zero-zeros l (t .1))
+
+pub all-zero-drop : (l : List ℕ) (k : ℕ) → k < length l → all-zero (drop k l) ≡ (eqb (getD l k 0) 0 && all-zero (drop (k + 1) l))
+unfolding all-zero
+all-zero-drop l k h = rw (add-one, drop-cons l k 0 h)
+
+pub all-zero-past : (l : List ℕ) (k : ℕ) → length l ≤ k → all-zero (drop k l) ≡ true
+unfolding all-zero
+all-zero-past l k h = rw (drop-of-length-le l h)
 
 -- ---- two lists are the same
 unfoldable pub same : List ℕ → List ℕ → Bool

@@ -4,8 +4,8 @@ use mathlib.Core.List.{List, [], _∷_}
 use Prim.Native.Nat.{ℕ, zero, suc, _+_, _*_, _/_, _%_, _^_, _≤_, _<_}
 use native.Mathlib.Nat.{pow-suc}
 use native.Mathlib.Omega.{arith}
-use lib.ListN.{length}
-use Rattle.frame_file.specs.Lists.{part, length-part, Below, below-part}
+use lib.ListN.{length, getD}
+use Rattle.frame_file.specs.Lists.{part, part-cons, length-part, Below, below-part}
 use Rattle.frame_file.specs.FrameFile.{little-endian, little-endian-bytes}
 
 pub length-little-endian-bytes : (n v : ℕ) → length (little-endian-bytes n v) ≡ n
@@ -42,3 +42,14 @@ pub part-of-number : (l : List ℕ) (a n : ℕ) → a + n ≤ length l → Below
 part-of-number l a n h b =
     sym (bytes-of-number (part l a n) (below-part 256 l a n b))
     ∙ ap (λ (m : ℕ). little-endian-bytes m (little-endian (part l a n))) (length-part l a n h)
+
+-- two and four bytes by their entries
+pub number-of-two : (l : List ℕ) (a : ℕ) → a + 2 ≤ length l → little-endian (part l a 2) ≡ getD l a 0 + 256 * getD l (a + 1) 0
+unfolding little-endian part
+number-of-two l a h = rw (part-cons l a 1 (omega arith), part-cons l (a + 1) 0 (omega arith)) (omega arith)
+
+pub number-of-four : (l : List ℕ) (a : ℕ) → a + 4 ≤ length l → little-endian (part l a 4) ≡ little-endian (part l a 2) + 65536 * little-endian (part l (a + 2) 2)
+unfolding little-endian
+number-of-four l a h =
+    let next : a + 1 + 1 ≡ a + 2 = omega arith in
+    rw (part-cons l a 3 (omega arith), part-cons l (a + 1) 2 (omega arith), next, number-of-two l a (omega arith)) (omega arith)

@@ -2,14 +2,14 @@
 use mathlib.Core.Path.{_≡_, refl, sym, _∙_, ap}
 use mathlib.Core.Bool.{true}
 use mathlib.Core.List.{List, [], _∷_, _++_, append-assoc, append-nil}
-use Prim.Native.Nat.{ℕ, zero, suc, _+_, _*_, _-_, _^_, _≤_, _<_}
+use Prim.Native.Nat.{ℕ, zero, suc, _+_, _^_, _≤_, _<_}
 use native.Mathlib.Omega.{arith}
 use lib.ListN.{length, length-append}
 use Rattle.toolkit.specs.Tests.{eqb-yes}
 use Rattle.frame.specs.declared.Shape.{Shape}
 use Rattle.frame.specs.Sites.{Frame}
-use Rattle.frame_file.specs.Lists.{part, part-append, part-middle, zeros, length-zeros, all-zero, zeros-all-zero, same-self, Below, below-append, below-part, below-zeros}
-use Rattle.frame_file.specs.FrameFile.{shape-of, little-endian, little-endian-bytes, tag, has-tag, header, header-filler, block-number, block-filler, block-samples, filled-up, packed-payload, with-check, check-holds, number-holds, header-bytes, sample-bytes, written-block}
+use Rattle.frame_file.specs.Lists.{part, part-append, part-middle, zeros, length-zeros, all-zero, zeros-all-zero, same-self, Below, below-append, below-zeros}
+use Rattle.frame_file.specs.FrameFile.{shape-of, little-endian, little-endian-bytes, tag, has-tag, header, header-filler, block-number, block-filler, block-samples, packed-payload, with-check, check-holds, number-holds, header-bytes, sample-bytes, written-block}
 use Rattle.frame_file.specs.LittleEndian.{length-little-endian-bytes, below-little-endian-bytes, number-of-bytes}
 use Rattle.frame_file.specs.Check.{length-with-check, with-check-holds}
 use Rattle.frame_file.specs.Raw10.{length-packed-payload, below-packed-payload}
@@ -69,60 +69,54 @@ module _ (shape : Shape) where
 
 -- ---- block n, from 1
 
-module _ (samples : List ℕ) (n : ℕ) where
+module _ (n : ℕ) (samples : List ℕ) where
   length-number : length (little-endian-bytes 4 n) ≡ 4
   length-number = length-little-endian-bytes 4 n
 
-  pub length-sample-bytes : length (sample-bytes samples n) ≡ 508
+  pub length-sample-bytes : length (sample-bytes n samples) ≡ 508
   unfolding sample-bytes
   length-sample-bytes =
-      let p : List ℕ = packed-payload (block-samples samples n) in
-      omega (arith, length-append (little-endian-bytes 4 n) (p ++ zeros 4), length-append p (zeros 4), length-number, length-packed-payload (block-samples samples n), length-zeros 4)
+      let p : List ℕ = packed-payload samples in
+      omega (arith, length-append (little-endian-bytes 4 n) (p ++ zeros 4), length-append p (zeros 4), length-number, length-packed-payload samples, length-zeros 4)
 
-  below-block-samples : Below 1024 samples → Below 1024 (block-samples samples n)
-  unfolding block-samples filled-up
-  below-block-samples h =
-      below-append 1024 (part samples (400 * (n - 1)) 400) _ (below-part 1024 samples (400 * (n - 1)) 400 h) (below-zeros 1024 _ (omega arith))
-
-  pub below-sample-bytes : Below 1024 samples → Below 256 (sample-bytes samples n)
+  pub below-sample-bytes : Below 1024 samples → Below 256 (sample-bytes n samples)
   unfolding sample-bytes
   below-sample-bytes h =
       below-append 256 (little-endian-bytes 4 n) _ (below-little-endian-bytes 4 n)
-      (below-append 256 (packed-payload (block-samples samples n)) (zeros 4) (below-packed-payload (block-samples samples n) (below-block-samples h))
-      (below-zeros 256 4 (omega arith)))
+      (below-append 256 (packed-payload samples) (zeros 4) (below-packed-payload samples h) (below-zeros 256 4 (omega arith)))
 
-  pub samples-check-holds : Below 1024 samples → check-holds (with-check (sample-bytes samples n)) ≡ true
-  samples-check-holds h = with-check-holds (sample-bytes samples n) length-sample-bytes (below-sample-bytes h)
+  pub samples-check-holds : Below 1024 samples → check-holds (with-check (sample-bytes n samples)) ≡ true
+  samples-check-holds h = with-check-holds (sample-bytes n samples) length-sample-bytes (below-sample-bytes h)
 
-  number-in-block : part (with-check (sample-bytes samples n)) 0 4 ≡ little-endian-bytes 4 n
+  number-in-block : part (with-check (sample-bytes n samples)) 0 4 ≡ little-endian-bytes 4 n
   unfolding sample-bytes
-  number-in-block = part-with-check (sample-bytes samples n) 0 4 length-sample-bytes (omega arith) ∙ part-middle [] (little-endian-bytes 4 n) _ 0 4 refl length-number
+  number-in-block = part-with-check (sample-bytes n samples) 0 4 length-sample-bytes (omega arith) ∙ part-middle [] (little-endian-bytes 4 n) _ 0 4 refl length-number
 
-  pub samples-number-holds : n < 256 ^ 4 → number-holds (with-check (sample-bytes samples n)) n ≡ true
+  pub samples-number-holds : n < 256 ^ 4 → number-holds (with-check (sample-bytes n samples)) n ≡ true
   unfolding number-holds block-number
   samples-number-holds h = eqb-yes (ap little-endian number-in-block ∙ number-of-bytes 4 n h)
 
-  pub payload-in-block : part (with-check (sample-bytes samples n)) 4 500 ≡ packed-payload (block-samples samples n)
+  pub payload-in-block : part (with-check (sample-bytes n samples)) 4 500 ≡ packed-payload samples
   unfolding sample-bytes
   payload-in-block =
-      part-with-check (sample-bytes samples n) 4 500 length-sample-bytes (omega arith)
-      ∙ part-middle (little-endian-bytes 4 n) (packed-payload (block-samples samples n)) (zeros 4) 4 500 length-number (length-packed-payload (block-samples samples n))
+      part-with-check (sample-bytes n samples) 4 500 length-sample-bytes (omega arith)
+      ∙ part-middle (little-endian-bytes 4 n) (packed-payload samples) (zeros 4) 4 500 length-number (length-packed-payload samples)
 
-  filler-in-block : part (with-check (sample-bytes samples n)) 504 4 ≡ zeros 4
+  filler-in-block : part (with-check (sample-bytes n samples)) 504 4 ≡ zeros 4
   unfolding sample-bytes
   filler-in-block =
       let number : List ℕ = little-endian-bytes 4 n in
-      let p : List ℕ = packed-payload (block-samples samples n) in
-      let front : length (number ++ p) ≡ 504 = omega (arith, length-append number p, length-number, length-packed-payload (block-samples samples n)) in
-      part-with-check (sample-bytes samples n) 504 4 length-sample-bytes (omega arith)
+      let p : List ℕ = packed-payload samples in
+      let front : length (number ++ p) ≡ 504 = omega (arith, length-append number p, length-number, length-packed-payload samples) in
+      part-with-check (sample-bytes n samples) 504 4 length-sample-bytes (omega arith)
       ∙ ap (λ (t : List ℕ). part t 504 4) (sym (append-assoc number p (zeros 4)) ∙ ap (λ (t : List ℕ). (number ++ p) ++ t) (sym (append-nil (zeros 4))))
       ∙ part-middle (number ++ p) (zeros 4) [] 504 4 front (length-zeros 4)
 
-  pub block-filler-zero : all-zero (block-filler (with-check (sample-bytes samples n))) ≡ true
+  pub block-filler-zero : all-zero (block-filler (with-check (sample-bytes n samples))) ≡ true
   unfolding block-filler
   block-filler-zero = ap all-zero filler-in-block ∙ zeros-all-zero 4
 
 pub length-written-block : (f : Frame) (n : ℕ) → length (written-block f n) ≡ 512
 unfolding written-block
 length-written-block f zero = length-with-check (header-bytes (shape-of f)) (length-header-bytes (shape-of f))
-length-written-block f (suc n) = length-with-check (sample-bytes (f .samples) (suc n)) (length-sample-bytes (f .samples) (suc n))
+length-written-block f (suc n) = length-with-check (sample-bytes (suc n) _) (length-sample-bytes (suc n) (block-samples (f .samples) (suc n)))

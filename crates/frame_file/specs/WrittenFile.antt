@@ -13,10 +13,10 @@ use Rattle.frame.specs.Sites.{Frame, frame, side-allowed, phase-allowed, highes
 use Rattle.frame.specs.Calls.{Admitted}
 use Rattle.frame.specs.Admission.{and-true}
 use Rattle.frame_file.specs.Lists.{part, part-part, joined, joined-cong, length-joined, part-joined, all-zero, Below, below-from, below-joined}
-use Rattle.frame_file.specs.FrameFile.{sample-count, shape-of, block, header, payload, block-samples, block-count, file-length, unpacked-payload, with-check, header-bytes, sample-bytes, written-block, written-file, stored-frame, length-allowed, check-holds, header-allowed, filler-holds}
+use Rattle.frame_file.specs.FrameFile.{stored-samples, sample-count, shape-of, block, header, payload, block-samples, block-count, file-length, unpacked-payload, with-check, header-bytes, sample-bytes, written-block, written-file, stored-frame, length-allowed, check-holds, header-allowed, filler-holds}
 use Rattle.frame_file.specs.Check.{below-with-check}
 use Rattle.frame_file.specs.Raw10.{unpacked-packed-payload}
-use Rattle.frame_file.specs.BlockSamples.{length-block-samples, block-samples-zero, joined-block-samples}
+use Rattle.frame_file.specs.BlockSamples.{below-block-samples, length-block-samples, block-samples-zero, joined-block-samples}
 use Rattle.frame_file.specs.WrittenBlocks.{below-header-bytes, below-sample-bytes, header-check-holds, header-number-holds, header-has-tag, header-of-bytes, header-filler-zero, samples-check-holds, samples-number-holds, payload-in-block, block-filler-zero, length-written-block}
 use Rattle.frame_file.specs.ReadTests.{Passes, HeaderPasses}
 
@@ -47,7 +47,7 @@ module _ (f : Frame) where
   unfolding written-block
   payload-of-written-file n h =
       ap unpacked-payload (payload-of-block (written-file f) (suc n) ∙ ap (λ (b : List ℕ). part b 4 500) (block-of-written-file (suc n) h)
-      ∙ payload-in-block (f .samples) (suc n))
+      ∙ payload-in-block (suc n) (block-samples (f .samples) (suc n)))
       ∙ unpacked-packed-payload (block-samples (f .samples) (suc n)) (length-block-samples (f .samples) (suc n))
 
   pub some-block : 0 < block-count (sample-count f)
@@ -71,6 +71,9 @@ module _ (f : Frame) (a : Admitted f) where
   unfolding highest-sample
   samples-below = below-from 1024 (f .samples) (omega arith) (λ k h. omega (arith, a .samples-in-range k h))
 
+  block-samples-below : (n : ℕ) → Below 1024 (block-samples (f .samples) n)
+  block-samples-below n = below-block-samples 1024 (f .samples) n (omega arith) samples-below
+
   -- a written file is a file of bytes
   pub below-written-file : Below 256 (written-file f)
   unfolding written-file written-block
@@ -78,7 +81,7 @@ module _ (f : Frame) (a : Admitted f) where
       below-joined 256 (block-count (sample-count f)) (written-block f) (omega arith)
       (elim [
         | zero ↦ below-with-check (header-bytes (shape-of f)) (below-header-bytes (shape-of f) (omega (arith, phase-high (a .phase-is-allowed))))
-        | suc n ↦ below-with-check (sample-bytes (f .samples) (suc n)) (below-sample-bytes (f .samples) (suc n) samples-below)
+        | suc n ↦ below-with-check (sample-bytes (suc n) _) (below-sample-bytes (suc n) (block-samples (f .samples) (suc n)) (block-samples-below (suc n)))
       ])
 
   header-of-written-file : header (block (written-file f) 0) ≡ shape-of f
@@ -96,7 +99,7 @@ module _ (f : Frame) (a : Admitted f) where
       ∙ joined-block-samples (f .samples) c (omega (arith, a .samples-count, blocks-hold (sample-count f)))
 
   pub frame-of-written-file : stored-frame (written-file f) ≡ f
-  unfolding stored-frame
+  unfolding stored-frame stored-samples
   frame-of-written-file =
       let stored : ℕ → List ℕ = λ i. unpacked-payload (payload (written-file f) (suc i)) in
       ap (λ (shape : Shape). frame shape (take (shape .height * shape .width) (joined (block-count (shape .height * shape .width) - 1) stored))) header-of-written-file
@@ -133,16 +136,16 @@ module _ (f : Frame) (a : Admitted f) where
   written-filler-holds n h =
       let zero-samples : all-zero (drop (sample-count f - 400 * (suc n - 1)) (block-samples (f .samples) (suc n))) ≡ true =
       subst (λ (m : ℕ). all-zero (drop (m - 400 * (suc n - 1)) (block-samples (f .samples) (suc n))) ≡ true) (a .samples-count) (block-samples-zero (f .samples) (suc n)) in
-      rw (block-of-written-file f (suc n) h, payload-of-written-file f n h, block-filler-zero (f .samples) (suc n)) zero-samples
+      rw (block-of-written-file f (suc n) h, payload-of-written-file f n h, block-filler-zero (suc n) (block-samples (f .samples) (suc n))) zero-samples
 
   pub written-block-passes : (n : ℕ) → 1 ≤ n → n < block-count (sample-count f) → Passes (written-file f) (sample-count f) n
   unfolding written-block
   written-block-passes zero l h = absurd (omega arith)
   written-block-passes (suc n) l h =
-      let this : block (written-file f) (suc n) ≡ with-check (sample-bytes (f .samples) (suc n)) = block-of-written-file f (suc n) h in
+      let this : block (written-file f) (suc n) ≡ with-check (sample-bytes (suc n) (block-samples (f .samples) (suc n))) = block-of-written-file f (suc n) h in
       record {
-        check = rw this (samples-check-holds (f .samples) (suc n) samples-below);
-        number = rw this (samples-number-holds (f .samples) (suc n) (omega (arith, block-count-high)));
+        check = rw this (samples-check-holds (suc n) _ (block-samples-below (suc n)));
+        number = rw this (samples-number-holds (suc n) _ (omega (arith, block-count-high)));
         filler = written-filler-holds n h;
       }
 

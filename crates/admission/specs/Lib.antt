@@ -1,0 +1,2 @@
+pub mod ShapeTest
+pub mod InOrder

@@ -1,0 +1,92 @@
+// The published calls under plain names, for C and Rust. Each answers every input.
+use frame::Answer;
+use frame::ReadAnswer;
+use frame::Refusal;
+use frame::Shape;
+ghost use mathlib.Core.Path.{_≡_};
+ghost use lib.ListN.{length};
+ghost use Rattle.frame.specs.Sites.{frame as frame-of};
+ghost use Rattle.frame.specs.Calls.{refused};
+ghost use Rattle.frame_file.specs.FrameFile.{write-answer, file-after-write, read-answer, samples-after-read};
+ghost use Rattle.bayer.specs.Exports.{Exported, ReadExported};
+
+// 0, 0 on success, otherwise the refusal's number and place.
+#[repr(C)]
+pub struct Returned {
+    pub number: usize,
+    pub place: usize,
+}
+
+// The same, and on success W, H and the phase; 0 for these on a refusal.
+#[repr(C)]
+pub struct ReadReturned {
+    pub number: usize,
+    pub place: usize,
+    pub width: usize,
+    pub height: usize,
+    pub phase: usize,
+}
+
+// Number and place of a refusal.
+fn export_refusal(why: Refusal) -> Returned
+    ensures { λ r. ⌜ (r .number ≡ refused why .number) × (r .place ≡ refused why .place) ⌝ }
+{
+    Returned {
+        number: frame::number_of(why),
+        place: frame::place_of(why),
+    }
+}
+
+fn export_answer(answer: Answer) -> Returned
+    ensures { λ r. ⌜ Exported answer r ⌝ }
+{
+    match answer {
+        Answer::Done => Returned {
+            number: 0,
+            place: 0,
+        },
+        Answer::Refused(why) => export_refusal(why),
+    }
+}
+
+fn export_read(answer: ReadAnswer) -> ReadReturned
+    ensures { λ r. ⌜ ReadExported answer r ⌝ }
+{
+    match answer {
+        ReadAnswer::Frame(shape) => ReadReturned {
+            number: 0,
+            place: 0,
+            width: shape.width,
+            height: shape.height,
+            phase: shape.phase,
+        },
+        ReadAnswer::Refused(why) => {
+            let refusal = export_refusal(why);
+            ReadReturned {
+                number: refusal.number,
+                place: refusal.place,
+                width: 0,
+                height: 0,
+                phase: 0,
+            }
+        }
+    }
+}
+
+// Reads a frame file into `samples`, which has W·H entries or more; those past W·H stay.
+#[no_mangle]
+pub extern "C" fn bayer_read(file: &[u8], samples: &mut [u16]) -> ReadReturned
+    ensures answer { λ r. ⌜ ReadExported (read-answer (now (file .entry)) (length (now (samples .entry)))) r ⌝ }
+    ensures left { λ _. ⌜ now (samples .exit) ≡ samples-after-read (now (file .entry)) (now (samples .entry)) ⌝ }
+{
+    export_read(reader::read(file, samples))
+}
+
+// Writes a frame into `file`, which has exactly the file's length.
+#[no_mangle]
+pub extern "C" fn bayer_write(shape: Shape, mosaic: &[u16], file: &mut [u8]) -> Returned
+    ensures answer { λ r. ⌜ Exported (write-answer (frame-of shape (now (mosaic .entry))) (length (now (file .entry)))) r ⌝ }
+    ensures left { λ _. ⌜ now (file .exit) ≡ file-after-write (frame-of shape (now (mosaic .entry))) (now (file .entry)) ⌝ }
+{
+    export_answer(writer::write(shape, mosaic, file))
+}

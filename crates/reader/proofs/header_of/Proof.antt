@@ -1,0 +1,29 @@
+use lib.ListN.{getD}
+use Rattle.frame_file.specs.FrameFile.{header}
+use native.Mathlib.Omega.{arith}
+use borrow.Author.Needs.{needs}
+use Rattle.reader.proofs.header_of.Statement.{statement}
+use Rattle.reader.proofs.header_of.Tie as tie
+
+number2-requires : tie.Need-number2-requires
+number2-requires c κs = search needs
+
+number2-requires-2 : tie.Need-number2-requires-2
+number2-requires-2 c κs = search needs
+
+shared-slice-read-t5 : tie.Need-shared-slice-read-t5
+shared-slice-read-t5 c = search needs
+
+cast-t6 : tie.Need-cast-t6
+cast-t6 c = omega (arith, c .shared-slice-known2 .given 12)
+
+returns : tie.Need-returns
+unfolding header
+returns c =
+    let width = c .before .before .number2 .ensures .0 in
+    let height = c .before .number22 .ensures .0 in
+    λ i. record { width = width i; height = height i; phase = getD (c .before .before .before .before .args .block .now) 12 0 }
+
+pub header-of-spec : {M : Type 1} → statement M
+header-of-spec =
+    tie.close (tie.spec number2-requires number2-requires-2 shared-slice-read-t5 cast-t6 returns)

@@ -1,0 +1,101 @@
+//! The proved library's calls as safe functions. Each export refuses what it does not admit, so every input may be given.
+
+use reference::calls::Refusal;
+use reference::frame_file::Description;
+
+#[repr(C)]
+#[derive(Clone, Copy)]
+struct Shape {
+    width: usize,
+    height: usize,
+    phase: usize,
+}
+
+#[repr(C)]
+struct Returned {
+    number: usize,
+    place: usize,
+}
+
+#[repr(C)]
+struct ReadReturned {
+    number: usize,
+    place: usize,
+    width: usize,
+    height: usize,
+    phase: usize,
+}
+
+extern "C" {
+    fn bayer_read(
+        file: *const u8,
+        file_length: usize,
+        samples: *mut u16,
+        samples_length: usize,
+    ) -> ReadReturned;
+
+    fn bayer_write(
+        shape: Shape,
+        mosaic: *const u16,
+        mosaic_length: usize,
+        file: *mut u8,
+        file_length: usize,
+    ) -> Returned;
+}
+
+/// Success, or the refusal of that number and place.
+fn answer<T>(number: usize, place: usize, value: T) -> Result<T, Refusal> {
+    match number {
+        0 => {
+            assert_eq!(place, 0, "success has place 0");
+            Ok(value)
+        }
+        _ => Err(Refusal {
+            number: number as u32,
+            place,
+        }),
+    }
+}
+
+pub fn read(file: &[u8], samples: &mut [u16]) -> Result<Description, Refusal> {
+    // Both slices are lent with their own lengths.
+    let returned = unsafe {
+        bayer_read(
+            file.as_ptr(),
+            file.len(),
+            samples.as_mut_ptr(),
+            samples.len(),
+        )
+    };
+    let description = Description {
+        width: returned.width,
+        height: returned.height,
+        phase: returned.phase,
+    };
+    answer(returned.number, returned.place, description)
+}
+
+pub fn write(
+    width: usize,
+    height: usize,
+    phase: usize,
+    mosaic: &[u16],
+    file: &mut [u8],
+) -> Result<(), Refusal> {
+    let shape = Shape {
+        width,
+        height,
+        phase,
+    };
+    // Both slices are lent with their own lengths.
+    let returned = unsafe {
+        bayer_write(
+            shape,
+            mosaic.as_ptr(),
+            mosaic.len(),
+            file.as_mut_ptr(),
+            file.len(),
+        )
+    };
+    answer(returned.number, returned.place, ())
+}
