@@ -3,6 +3,21 @@
 use reference::calls::Refusal;
 use reference::frame_file::Description;
 
+/// Width and height of frames whose count of samples is at, just below or just above a multiple of 400, or has the longest side.
+pub const SIDES_NEAR_MULTIPLES_OF_400: [(usize, usize); 11] = [
+    (20, 20),
+    (21, 19),
+    (57, 7),
+    (40, 20),
+    (47, 17),
+    (89, 9),
+    (50, 32),
+    (1599, 3),
+    (267, 6),
+    (4096, 2),
+    (2, 4096),
+];
+
 #[repr(C)]
 #[derive(Clone, Copy)]
 struct Shape {

@@ -52,8 +52,7 @@ fn sides_to_64_by_48() {
 #[test]
 fn at_below_and_above_multiples_of_400() {
     let mut generator = Generator::new(3);
-    let sides = [(20, 20), (21, 19), (57, 7), (40, 20), (47, 17), (89, 9), (50, 32), (1599, 3), (267, 6), (4096, 2), (2, 4096)];
-    for (width, height) in sides {
+    for (width, height) in compare::SIDES_NEAR_MULTIPLES_OF_400 {
         let frame = frame_of_sides(&mut generator, Kind::Random, width, height);
         assert_eq!(both_write(&frame, file_length(&frame)), Ok(()));
     }

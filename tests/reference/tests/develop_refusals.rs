@@ -2,7 +2,7 @@
 
 mod common;
 
-use common::{developed, frame_of_sides, Generator, Kind};
+use common::{developed, frame_of_sides, must_refuse, with, Call, Generator, Kind};
 use reference::calls::{clamp, develop, refused, returned};
 
 /// All that is lent to one call of develop.
@@ -18,7 +18,7 @@ struct Lent {
     work: Vec<i32>,
 }
 
-impl Lent {
+impl Call for Lent {
     fn call(&mut self) -> (u32, usize) {
         returned(&develop(
             self.width,
@@ -49,20 +49,6 @@ fn lent(generator: &mut Generator) -> Lent {
         blue: generator.numbers(count),
         work: generator.numbers(4 * count + more),
     }
-}
-
-/// The call must be refused so, and leave every buffer untouched.
-fn must_refuse(mut lent: Lent, number: u32, place: usize) {
-    let before = lent.clone();
-    assert_eq!(lent.call(), (number, place), "{before:?}");
-    assert_eq!(lent, before);
-}
-
-/// The call with one thing changed.
-fn with(lent: &Lent, change: impl Fn(&mut Lent)) -> Lent {
-    let mut changed = lent.clone();
-    change(&mut changed);
-    changed
 }
 
 #[test]

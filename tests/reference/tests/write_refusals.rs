@@ -2,7 +2,7 @@
 
 mod common;
 
-use common::{frame_of_sides, Generator, Kind};
+use common::{frame_of_sides, must_refuse, with, Call, Generator, Kind};
 use reference::calls::returned;
 use reference::frame_file::{block_count, write, BLOCK};
 
@@ -16,7 +16,7 @@ struct Lent {
     file: Vec<u8>,
 }
 
-impl Lent {
+impl Call for Lent {
     fn call(&mut self) -> (u32, usize) {
         returned(&write(
             self.width,
@@ -42,20 +42,6 @@ fn lent(generator: &mut Generator) -> Lent {
             .map(|_| generator.between(0, 255) as u8)
             .collect(),
     }
-}
-
-/// The call must be refused so, and leave every buffer untouched.
-fn must_refuse(mut lent: Lent, number: u32, place: usize) {
-    let before = lent.clone();
-    assert_eq!(lent.call(), (number, place));
-    assert_eq!(lent, before);
-}
-
-/// The call with one thing changed.
-fn with(lent: &Lent, change: impl Fn(&mut Lent)) -> Lent {
-    let mut changed = lent.clone();
-    change(&mut changed);
-    changed
 }
 
 #[test]

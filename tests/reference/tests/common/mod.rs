@@ -158,3 +158,23 @@ pub fn set_check(file: &mut [u8], number: usize) {
     let sum = check(block);
     block[508..].copy_from_slice(&sum.to_le_bytes());
 }
+
+/// All that is lent to one call, and the call.
+pub trait Call: Clone + std::fmt::Debug + PartialEq {
+    /// The number and place that the call returns.
+    fn call(&mut self) -> (u32, usize);
+}
+
+/// The call must be refused so, and leave every buffer untouched.
+pub fn must_refuse(mut lent: impl Call, number: u32, place: usize) {
+    let before = lent.clone();
+    assert_eq!(lent.call(), (number, place), "{before:?}");
+    assert_eq!(lent, before);
+}
+
+/// The call with one thing changed.
+pub fn with<C: Call>(lent: &C, change: impl Fn(&mut C)) -> C {
+    let mut changed = lent.clone();
+    change(&mut changed);
+    changed
+}
