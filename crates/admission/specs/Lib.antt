@@ -1,2 +1,3 @@
 pub mod ShapeTest
 pub mod InOrder
+pub mod Allowed

@@ -6,7 +6,7 @@ use frame::Shape;
 ghost use mathlib.Core.Path.{_≡_};
 ghost use lib.ListN.{length};
 ghost use Rattle.frame.specs.Sites.{frame as frame-of};
-ghost use Rattle.frame.specs.Calls.{refused};
+ghost use Rattle.frame.specs.Calls.{number-and-place};
 ghost use Rattle.frame_file.specs.FrameFile.{write-answer, file-after-write, read-answer, samples-after-read};
 ghost use Rattle.bayer.specs.Exports.{Exported, ReadExported};
 
@@ -29,7 +29,7 @@ pub struct ReadReturned {
 
 // Number and place of a refusal.
 fn export_refusal(why: Refusal) -> Returned
-    ensures { λ r. ⌜ (r .number ≡ refused why .number) × (r .place ≡ refused why .place) ⌝ }
+    ensures { λ r. ⌜ (r .number ≡ number-and-place why .number) × (r .place ≡ number-and-place why .place) ⌝ }
 {
     Returned {
         number: frame::number_of(why),

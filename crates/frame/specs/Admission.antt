@@ -12,7 +12,7 @@ use Rattle.frame.specs.declared.Refusal.the-variants.{Size, Phase, Mosai
 use Rattle.frame.specs.declared.Answer.{Answer}
 use Rattle.frame.specs.declared.Answer.the-variants.{Done, Refused}
 use Rattle.frame.specs.Sites.{Frame, side-allowed, phase-allowed, highest-sample}
-use Rattle.frame.specs.Calls.{Returned, success, refused, returned, tested, samples-answer, answer-in-order, Admitted}
+use Rattle.frame.specs.Calls.{Returned, success, number-and-place, returned, tested, samples-answer, answer-in-order, Admitted}
 
 pub refused-not-done : {P : Type 0} (why : Refusal) → Refused why ≡ Done → P
 refused-not-done why e = absurd (let z : _≡_ {A = ℕ} 0 1 = cc in omega arith)
@@ -90,18 +90,18 @@ admitted-done f allowed t a =
 
 -- ---- success is told by 0, 0
 
-refused-not-zero : {P : Type 0} (why : Refusal) → refused why ≡ success → P
-refused-not-zero Size e = absurd (omega (arith, ap (λ (r : Returned). r .number) e))
-refused-not-zero Phase e = absurd (omega (arith, ap (λ (r : Returned). r .number) e))
-refused-not-zero MosaicLength e = absurd (omega (arith, ap (λ (r : Returned). r .number) e))
-refused-not-zero BufferLength e = absurd (omega (arith, ap (λ (r : Returned). r .number) e))
-refused-not-zero (Sample k) e = absurd (omega (arith, ap (λ (r : Returned). r .number) e))
-refused-not-zero FileLength e = absurd (omega (arith, ap (λ (r : Returned). r .number) e))
-refused-not-zero (Check k) e = absurd (omega (arith, ap (λ (r : Returned). r .number) e))
-refused-not-zero Header e = absurd (omega (arith, ap (λ (r : Returned). r .number) e))
-refused-not-zero (BlockNumber k) e = absurd (omega (arith, ap (λ (r : Returned). r .number) e))
-refused-not-zero (Filler k) e = absurd (omega (arith, ap (λ (r : Returned). r .number) e))
+number-above : (why : Refusal) → 0 < number-and-place why .number
+number-above Size = omega arith
+number-above Phase = omega arith
+number-above MosaicLength = omega arith
+number-above BufferLength = omega arith
+number-above (Sample k) = omega arith
+number-above FileLength = omega arith
+number-above (Check k) = omega arith
+number-above Header = omega arith
+number-above (BlockNumber k) = omega arith
+number-above (Filler k) = omega arith
 
 pub returned-done : (a : Answer) → returned a ≡ success → a ≡ Done
 returned-done Done e = refl
-returned-done (Refused why) e = refused-not-zero why e
+returned-done (Refused why) e = absurd (omega (arith, number-above why, ap (λ (r : Returned). r .number) e))

@@ -167,12 +167,12 @@ stored-frame file =
     frame shape (stored-samples file (shape .height * shape .width))
 
 -- what read finds: a frame, or why there is none
-pub data Outcome : Type 0 where
-  accepted : Frame → Outcome
-  refused : Refusal → Outcome
+pub data Reading : Type 0 where
+  accepted : Frame → Reading
+  refused : Refusal → Reading
 
 -- go on where a test holds, otherwise refuse
-abbrev pub tested : Bool → Refusal → Outcome → Outcome
+abbrev pub tested : Bool → Refusal → Reading → Reading
 tested holds why rest = cond holds rest (refused why)
 
 -- "6: length below 512, no multiple of 512"
@@ -197,7 +197,7 @@ filler-holds file samples n =
     all-zero (block-filler (block file n)) && all-zero (drop (samples - samples-per-block * (n - 1)) (unpacked-payload (payload file n)))
 
 -- "then blocks 1, 2, .. each for 7, 9, 10.": blocks n, n + 1, .., so many of them
-unfoldable pub later-blocks : List ℕ → Frame → ℕ → ℕ → Outcome
+unfoldable pub later-blocks : List ℕ → Frame → ℕ → ℕ → Reading
 later-blocks file f n zero = accepted f
 later-blocks file f n (suc left) =
     tested (check-holds (block file n)) (Check n)
@@ -207,8 +207,8 @@ later-blocks file f n (suc left) =
 
 -- "Read tests length, then block 0 for 7, 9, 8, 10, then the count (6), then 4, then blocks 1, 2, .. each for 7, 9, 10."; "Read needs
 -- W·H entries or more": `room` is how many it is lent
-unfoldable pub read-outcome : List ℕ → ℕ → Outcome
-read-outcome file room =
+unfoldable pub reading : List ℕ → ℕ → Reading
+reading file room =
     let f : Frame = stored-frame file in
     tested (length-allowed (length file)) FileLength
     (tested (check-holds (block file 0)) (Check 0)
@@ -220,18 +220,18 @@ read-outcome file room =
     (later-blocks file f 1 (block-count (sample-count f) - 1))))))))
 
 -- "Success returns 0, 0, and read adds W, H and the phase; a refusal returns its number and place alone."
-abbrev pub answer-of : Outcome → ReadAnswer
+abbrev pub answer-of : Reading → ReadAnswer
 answer-of (accepted f) = Read.Frame (shape-of f)
 answer-of (refused why) = Read.Refused why
 
 unfoldable pub read-answer : List ℕ → ℕ → ReadAnswer
-read-answer file room = answer-of (read-outcome file room)
+read-answer file room = answer-of (reading file room)
 
 -- "Read needs W·H entries or more, and those past W·H stay."; "Every refusal leaves every buffer untouched."
-abbrev pub samples-of : Outcome → List ℕ → List ℕ
+abbrev pub samples-of : Reading → List ℕ → List ℕ
 samples-of (accepted f) before = f .samples ++ drop (sample-count f) before
 samples-of (refused why) before = before
 
 -- what the lent samples hold after read
 unfoldable pub samples-after-read : List ℕ → List ℕ → List ℕ
-samples-after-read file before = samples-of (read-outcome file (length before)) before
+samples-after-read file before = samples-of (reading file (length before)) before

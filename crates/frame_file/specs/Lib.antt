@@ -1,5 +1,6 @@
 pub mod Lists
 pub mod FrameFile
+pub mod BlockCount
 pub mod LittleEndian
 pub mod Check
 pub mod Raw10
@@ -8,6 +9,7 @@ pub mod BlocksFromTests
 pub mod BlockSamples
 pub mod ReadTests
 pub mod WrittenFile
+pub mod AcceptedFile
 pub mod AcceptedExactlyWhenWritten
 pub mod OneByteChanged
 pub mod ReadAndWrite

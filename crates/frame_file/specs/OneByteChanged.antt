@@ -12,9 +12,9 @@ use lib.Seq.{getD-set-same, getD-set-other}
 use Rattle.toolkit.specs.Tests.{by-test, eqb-eq, leb-le, leb-gt}
 use Rattle.frame.specs.declared.Refusal.the-variants.{Check}
 use Rattle.frame.specs.Sites.{Frame}
-use Rattle.frame.specs.Calls.{Admitted}
+use Rattle.frame.specs.Calls.{returned-by-read, Admitted}
 use Rattle.frame_file.specs.Lists.{part, length-part, getD-part, part-set-past, part-set-before, part-set-inside, Below, below-part, below-set}
-use Rattle.frame_file.specs.FrameFile.{sample-count, block, header, payload, block-count, file-length, little-endian, little-endian-bytes, weighted-sum, check, stored-check, check-holds, filler-holds, stored-frame, written-file, refused, read-outcome}
+use Rattle.frame_file.specs.FrameFile.{sample-count, block, header, payload, block-count, file-length, little-endian, little-endian-bytes, weighted-sum, check, stored-check, check-holds, filler-holds, stored-frame, written-file, refused, reading, read-answer}
 use Rattle.frame_file.specs.LittleEndian.{part-of-number}
 use Rattle.frame_file.specs.Check.{weighted-sum-cong, check-cong}
 use Rattle.frame_file.specs.ReadTests.{Passes, HeaderPasses, later-blocks-check, read-after-header, read-check-0}
@@ -145,25 +145,37 @@ module _ (f : Frame) (a : Admitted f) (room : ℕ) (enough : sample-count f ≤ 
   header-passes : HeaderPasses (written-file f) room
   header-passes = written-header-passes f a room enough
 
-  changed-in-header : k / 512 ≡ 0 → read-outcome (set (written-file f) k v) room ≡ refused (Check 0)
+  changed-in-header : k / 512 ≡ 0 → reading (set (written-file f) k v) room ≡ refused (Check 0)
   changed-in-header e =
       read-check-0 (set (written-file f) k v) room (rw (length-set (written-file f) k v) (header-passes .size))
       (subst (λ (n : ℕ). check-holds (block (set (written-file f) k v) n) ≡ false) e changed-check)
 
-  same-area : 0 < k / 512 → sample-count (stored-frame (set (written-file f) k v)) ≡ sample-count f
+  same-count : 0 < k / 512 → sample-count (stored-frame (set (written-file f) k v)) ≡ sample-count f
   unfolding stored-frame
-  same-area h =
+  same-count h =
       ap (λ (b : List ℕ). header b .height * header b .width) (earlier-block (written-file f) k v 0 h)
       ∙ ap (λ (g : Frame). g .height * g .width) (frame-of-written-file f a)
 
-  changed-later : 0 < k / 512 → read-outcome (set (written-file f) k v) room ≡ refused (Check (k / 512))
+  changed-later : 0 < k / 512 → reading (set (written-file f) k v) room ≡ refused (Check (k / 512))
   changed-later h =
       read-after-header (set (written-file f) k v) room (header-still-passes (written-file f) k v room h header-passes)
       ∙ later-blocks-check (set (written-file f) k v) (stored-frame (set (written-file f) k v)) (k / 512) 1 _ h
-      (rw (same-area h) (omega (arith, in-file)))
-      (rw (same-area h) (λ n l m. block-still-passes (written-file f) k v (sample-count f) n m (written-block-passes f a n l (omega (arith, in-file)))))
+      (rw (same-count h) (omega (arith, in-file)))
+      (rw (same-count h) (λ n l m. block-still-passes (written-file f) k v (sample-count f) n m (written-block-passes f a n l (omega (arith, in-file)))))
       changed-check
 
-  -- a written file with byte k changed is refused with number 7 and the block of byte k
-  pub one-byte-changed : read-outcome (set (written-file f) k v) room ≡ refused (Check (k / 512))
-  one-byte-changed = ⊎-elim (λ (e : k / 512 ≡ 0). changed-in-header e ∙ ap (λ (n : ℕ). refused (Check n)) (sym e)) changed-later (eq-zero-or-pos (k / 512))
+  refused-there : reading (set (written-file f) k v) room ≡ refused (Check (k / 512))
+  refused-there = ⊎-elim (λ (e : k / 512 ≡ 0). changed-in-header e ∙ ap (λ (n : ℕ). refused (Check n)) (sym e)) changed-later (eq-zero-or-pos (k / 512))
+
+-- a written file with byte k changed to another byte is refused for its check, at the block of byte k
+pub one-byte-changed : (f : Frame) → Admitted f → (room : ℕ) → sample-count f ≤ room
+    → (k v : ℕ) → k < length (written-file f) → v < 256 → ¬ (v ≡ getD (written-file f) k 0)
+    → reading (set (written-file f) k v) room ≡ refused (Check (k / 512))
+one-byte-changed f a room enough k v inside small other = refused-there f a room enough k v inside small other
+
+-- the call then returns 7 and that block
+pub one-byte-changed-returns : (f : Frame) → Admitted f → (room : ℕ) → sample-count f ≤ room
+    → (k v : ℕ) → k < length (written-file f) → v < 256 → ¬ (v ≡ getD (written-file f) k 0)
+    → returned-by-read (read-answer (set (written-file f) k v) room) ≡ record { number = 7; place = k / 512 }
+unfolding read-answer
+one-byte-changed-returns f a room enough k v inside small other = rw (one-byte-changed f a room enough k v inside small other)

@@ -16,7 +16,7 @@ use Rattle.frame.specs.Sites.{Frame, frame}
 use Rattle.frame.specs.Calls.{Admitted}
 use Rattle.frame.specs.Admission.{done-admitted, admitted-done}
 use Rattle.frame_file.specs.Lists.{Below}
-use Rattle.frame_file.specs.FrameFile.{sample-count, shape-of, file-length, written-file, write-answer, file-after-write, Outcome, accepted, refused, answer-of, samples-of, read-outcome, read-answer, samples-after-read}
+use Rattle.frame_file.specs.FrameFile.{sample-count, shape-of, file-length, written-file, write-answer, file-after-write, Reading, accepted, refused, answer-of, samples-of, reading, read-answer, samples-after-read}
 use Rattle.frame_file.specs.WrittenFile.{length-written-file}
 use Rattle.frame_file.specs.AcceptedExactlyWhenWritten.{accepted-is-written, accepted-exactly-when-written, written-is-accepted}
 
@@ -58,7 +58,7 @@ written-makes f file a e =
 -- ---- read
 
 module _ (file before : List ℕ) (f : Frame) where
-  pub accepted-yields : read-outcome file (length before) ≡ accepted f → Yields file before f
+  pub accepted-yields : reading file (length before) ≡ accepted f → Yields file before f
   unfolding read-answer samples-after-read
   accepted-yields e = record { answered = rw e; left = rw e }
 
@@ -74,13 +74,13 @@ module _ (file before : List ℕ) (f : Frame) where
       let rest : drop (g .height * g .width) before ≡ drop (sample-count f) before = ap (λ (t : Shape). drop (t .height * t .width) before) shapes in
       ap₂ frame shapes (samples-equal g (drop (sample-count f) before) (sym (ap (λ (t : List ℕ). g .samples ++ t) rest) ∙ s))
 
-  outcome-is : (o : Outcome) → answer-of o ≡ Read.Frame (shape-of f) → samples-of o before ≡ f .samples ++ drop (sample-count f) before → o ≡ accepted f
-  outcome-is (accepted g) e s = ap accepted (frames-equal g e s)
-  outcome-is (refused why) e s = absurd (let z : _≡_ {A = ℕ} 0 1 = cc in omega arith)
+  reading-is : (o : Reading) → answer-of o ≡ Read.Frame (shape-of f) → samples-of o before ≡ f .samples ++ drop (sample-count f) before → o ≡ accepted f
+  reading-is (accepted g) e s = ap accepted (frames-equal g e s)
+  reading-is (refused why) e s = absurd (let z : _≡_ {A = ℕ} 0 1 = cc in omega arith)
 
-  pub yields-accepted : Yields file before f → read-outcome file (length before) ≡ accepted f
+  pub yields-accepted : Yields file before f → reading file (length before) ≡ accepted f
   unfolding read-answer samples-after-read
-  yields-accepted y = outcome-is (read-outcome file (length before)) (y .answered) (y .left)
+  yields-accepted y = reading-is (reading file (length before)) (y .answered) (y .left)
 
 -- ---- the two together
 

@@ -15,12 +15,12 @@ use Rattle.frame.specs.declared.Refusal.the-variants.{BufferLength, FileLength,
 use Rattle.frame.specs.Sites.{Frame, side-allowed, phase-allowed}
 use Rattle.frame.specs.Admission.{and-true}
 use Rattle.frame_file.specs.Lists.{all-zero}
-use Rattle.frame_file.specs.FrameFile.{sample-count, block, has-tag, header, header-filler, block-count, file-length, stored-frame, Outcome, accepted, refused, tested, length-allowed, check-holds, number-holds, header-allowed, filler-holds, later-blocks, read-outcome}
+use Rattle.frame_file.specs.FrameFile.{sample-count, block, has-tag, header, header-filler, block-count, file-length, stored-frame, Reading, accepted, refused, tested, length-allowed, check-holds, number-holds, header-allowed, filler-holds, later-blocks, reading}
 
 pub refused-not-accepted : {P : Type 0} {why : Refusal} {f : Frame} → refused why ≡ accepted f → P
 refused-not-accepted e = absurd (let z : _≡_ {A = ℕ} 0 1 = cc in omega arith)
 
-pub tested-accepted : (holds : Bool) (why : Refusal) (rest : Outcome) (f : Frame) → tested holds why rest ≡ accepted f → (holds ≡ true) × (rest ≡ accepted f)
+pub tested-accepted : (holds : Bool) (why : Refusal) (rest : Reading) (f : Frame) → tested holds why rest ≡ accepted f → (holds ≡ true) × (rest ≡ accepted f)
 tested-accepted true why rest f e = (refl, e)
 tested-accepted false why rest f e = refused-not-accepted e
 
@@ -93,21 +93,21 @@ allowed-header b e =
     record { tagged = t .0; width-allowed = w .0; height-allowed = h .0; phase-is-allowed = h .1 }
 
 -- what is left to read after them
-abbrev pub after-header : List ℕ → Outcome
+abbrev pub after-header : List ℕ → Reading
 after-header file = later-blocks file (stored-frame file) 1 (block-count (sample-count (stored-frame file)) - 1)
 
-pub read-after-header : (file : List ℕ) (room : ℕ) → HeaderPasses file room → read-outcome file room ≡ after-header file
-unfolding read-outcome
+pub read-after-header : (file : List ℕ) (room : ℕ) → HeaderPasses file room → reading file room ≡ after-header file
+unfolding reading
 read-after-header file room p =
     rw (p .size, p .check, p .number, p .allowed, p .filler, eqb-yes (p .count), leb-yes (p .enough))
 
 -- the check of block 0 is tested next to the length
-pub read-check-0 : (file : List ℕ) (room : ℕ) → length-allowed (length file) ≡ true → check-holds (block file 0) ≡ false → read-outcome file room ≡ refused (Check 0)
-unfolding read-outcome
+pub read-check-0 : (file : List ℕ) (room : ℕ) → length-allowed (length file) ≡ true → check-holds (block file 0) ≡ false → reading file room ≡ refused (Check 0)
+unfolding reading
 read-check-0 file room size differs = rw (size, differs)
 
-pub header-of-accepted : (file : List ℕ) (room : ℕ) (f : Frame) → read-outcome file room ≡ accepted f → HeaderPasses file room × (after-header file ≡ accepted f)
-unfolding read-outcome
+pub header-of-accepted : (file : List ℕ) (room : ℕ) (f : Frame) → reading file room ≡ accepted f → HeaderPasses file room × (after-header file ≡ accepted f)
+unfolding reading
 header-of-accepted file room f e =
     let size = tested-accepted (length-allowed (length file)) FileLength _ f e in
     let check = tested-accepted (check-holds (block file 0)) (Check 0) _ f (size .1) in

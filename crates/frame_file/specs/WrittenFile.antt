@@ -14,6 +14,7 @@ use Rattle.frame.specs.Calls.{Admitted}
 use Rattle.frame.specs.Admission.{and-true}
 use Rattle.frame_file.specs.Lists.{part, part-part, joined, joined-cong, length-joined, part-joined, all-zero, Below, below-from, below-joined}
 use Rattle.frame_file.specs.FrameFile.{stored-samples, sample-count, shape-of, block, header, payload, block-samples, block-count, file-length, unpacked-payload, with-check, header-bytes, sample-bytes, written-block, written-file, stored-frame, length-allowed, check-holds, header-allowed, filler-holds}
+use Rattle.frame_file.specs.BlockCount.{some-blocks, block-count-most, blocks-hold}
 use Rattle.frame_file.specs.Check.{below-with-check}
 use Rattle.frame_file.specs.Raw10.{unpacked-packed-payload}
 use Rattle.frame_file.specs.BlockSamples.{below-block-samples, length-block-samples, block-samples-zero, joined-block-samples}
@@ -50,22 +51,9 @@ module _ (f : Frame) where
       ∙ payload-in-block (suc n) (block-samples (f .samples) (suc n)))
       ∙ unpacked-packed-payload (block-samples (f .samples) (suc n)) (length-block-samples (f .samples) (suc n))
 
-  pub some-block : 0 < block-count (sample-count f)
-  unfolding block-count
-  some-block = omega arith
-
--- the later blocks have place for all samples
-pub blocks-hold : (m : ℕ) → m ≤ 400 * (block-count m - 1)
-unfolding block-count
-blocks-hold m = omega arith
-
 module _ (f : Frame) (a : Admitted f) where
   area-high : sample-count f ≤ 16777216
   area-high = mul-le-mul (side-high (a .height-allowed)) (side-high (a .width-allowed))
-
-  block-count-high : block-count (sample-count f) ≤ 41945
-  unfolding block-count
-  block-count-high = omega (arith, area-high)
 
   samples-below : Below 1024 (f .samples)
   unfolding highest-sample
@@ -87,7 +75,7 @@ module _ (f : Frame) (a : Admitted f) where
   header-of-written-file : header (block (written-file f) 0) ≡ shape-of f
   unfolding written-block
   header-of-written-file =
-      ap header (block-of-written-file f 0 (some-block f))
+      ap header (block-of-written-file f 0 (some-blocks (sample-count f)))
       ∙ header-of-bytes (shape-of f) (omega (arith, side-high (a .width-allowed))) (omega (arith, side-high (a .height-allowed)))
 
   samples-of-written-file : take (sample-count f) (joined (block-count (sample-count f) - 1) (λ i. unpacked-payload (payload (written-file f) (suc i)))) ≡ f .samples
@@ -119,10 +107,10 @@ module _ (f : Frame) (a : Admitted f) where
   pub written-header-passes : (room : ℕ) → sample-count f ≤ room → HeaderPasses (written-file f) room
   unfolding written-block length-allowed file-length
   written-header-passes room r =
-      let first : block (written-file f) 0 ≡ with-check (header-bytes (shape-of f)) = block-of-written-file f 0 (some-block f) in
+      let first : block (written-file f) 0 ≡ with-check (header-bytes (shape-of f)) = block-of-written-file f 0 (some-blocks (sample-count f)) in
       let size : length (written-file f) ≡ 512 * block-count (sample-count f) = length-written-file f in
       record {
-        size = rw (leb-yes {m = 512} {n = length (written-file f)} (omega (arith, some-block f)), eqb-yes {m = length (written-file f) % 512} {n = 0} (omega arith));
+        size = rw (leb-yes {m = 512} {n = length (written-file f)} (omega (arith, some-blocks (sample-count f))), eqb-yes {m = length (written-file f) % 512} {n = 0} (omega arith));
         check = rw first (header-check-holds (shape-of f) (omega (arith, phase-high (a .phase-is-allowed))));
         number = rw first (header-number-holds (shape-of f));
         allowed = rw first header-block-allowed;
@@ -145,7 +133,7 @@ module _ (f : Frame) (a : Admitted f) where
       let this : block (written-file f) (suc n) ≡ with-check (sample-bytes (suc n) (block-samples (f .samples) (suc n))) = block-of-written-file f (suc n) h in
       record {
         check = rw this (samples-check-holds (suc n) _ (block-samples-below (suc n)));
-        number = rw this (samples-number-holds (suc n) _ (omega (arith, block-count-high)));
+        number = rw this (samples-number-holds (suc n) _ (omega (arith, block-count-most (sample-count f) area-high)));
         filler = written-filler-holds n h;
       }
 

@@ -8,7 +8,7 @@ use lib.ListN.{length}
 use Rattle.frame.specs.declared.Refusal.{Refusal}
 use Rattle.frame.specs.declared.Refusal.the-variants.{BufferLength}
 use Rattle.frame.specs.Sites.{Frame, Colour, red, green, blue}
-use Rattle.frame.specs.Calls.{refused, held}
+use Rattle.frame.specs.Calls.{number-and-place, held}
 use Rattle.method.specs.Gradients.{mosaic}
 use Rattle.method.specs.Planes.{output}
 use Rattle.frame_file.specs.Lists.{joined}
@@ -50,7 +50,7 @@ refused-word = 114 ∷ 101 ∷ 102 ∷ 117 ∷ 115 ∷ 101 ∷ 100 ∷ []
 
 -- "a refusal prints `refused`, number, place."
 unfoldable pub refusal-text : Refusal → List ℕ
-refusal-text why = refused-word ++ (space ∷ numbers-line (refused why .number ∷ refused why .place ∷ []))
+refusal-text why = refused-word ++ (space ∷ numbers-line (number-and-place why .number ∷ number-and-place why .place ∷ []))
 
 unfoldable pub clamped-at : Frame → Colour → ℕ → ℕ → ℕ
 clamped-at f c i j = natAbs (held (output (mosaic f) c i j))
@@ -62,11 +62,11 @@ site-text f i j = numbers-line (i ∷ j ∷ clamped-at f red i j ∷ clamped-at 
 unfoldable pub frame-text : Frame → List ℕ
 frame-text f = heading ++ joined (f .height * f .width) (λ k. site-text f (k / f .width) (k % f .width))
 
-abbrev pub text-of : File.Outcome → List ℕ
+abbrev pub text-of : File.Reading → List ℕ
 text-of (File.accepted f) = frame-text f
 text-of (File.refused why) = refusal-text why
 
 -- "The program reads one file from standard input into 2,048 bytes (a longer one prints `refused 4 0` before any other test) and 1,024
 -- samples (read's own 4), develops, clamps and prints;"
 unfoldable pub printed : List ℕ → List ℕ
-printed file = cond (ltb 2048 (length file)) (refusal-text BufferLength) (text-of (File.read-outcome file 1024))
+printed file = cond (ltb 2048 (length file)) (refusal-text BufferLength) (text-of (File.reading file 1024))

@@ -1,3 +1,3 @@
 pub mod Tests
 pub mod Samples
-pub mod Outcomes
+pub mod Readings

@@ -9,16 +9,7 @@ use borrow.Rule.Slice.PartMut.{putMid, midOf, mid-len, same-len-mid}
 use Rattle.frame_file.specs.Lists.{part, part-take, joined, length-joined, part-joined}
 use Rattle.frame_file.specs.FrameFile.{payload, unpacked-payload, block-count, stored-samples}
 use Rattle.frame_file.specs.Raw10.{length-unpacked-payload}
-use Rattle.frame_file.specs.WrittenFile.{blocks-hold}
-
--- a block with a sample of m is one of the file's
-pub block-inside : (m n : ℕ) → 1 ≤ n → 400 * (n - 1) < m → n < block-count m
-unfolding block-count
-block-inside m n h l = omega arith
-
-block-has : (m i : ℕ) → 400 * i < m → i < block-count m - 1
-unfolding block-count
-block-has m i h = omega arith
+use Rattle.frame_file.specs.BlockCount.{blocks-hold, block-after-header}
 
 module _ (file : List ℕ) (m : ℕ) where
   block-samples : ℕ → List ℕ
@@ -38,7 +29,7 @@ module _ (file : List ℕ) (m : ℕ) where
       let all : List ℕ = joined (block-count m - 1) block-samples in
       sym (take-take k 400 (drop (400 * i) (take m all)) small)
       ∙ ap (take k) (part-take all m (400 * i) 400)
-      ∙ ap (λ (t : List ℕ). take k (take (m - 400 * i) t)) (part-joined block-samples 400 (λ j. length-unpacked-payload (payload file (suc j))) (block-count m - 1) i (block-has m i h))
+      ∙ ap (λ (t : List ℕ). take k (take (m - 400 * i) t)) (part-joined block-samples 400 (λ j. length-unpacked-payload (payload file (suc j))) (block-count m - 1) i (block-after-header m i h))
       ∙ take-take k (m - 400 * i) (unpacked-payload (payload file (suc i))) (omega arith)
 
 -- the samples before position `start`, the first of block n, are stored

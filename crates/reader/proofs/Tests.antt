@@ -16,7 +16,7 @@ use Rattle.frame.specs.declared.Answer.the-variants.{Done, Refused}
 use Rattle.admission.specs.ShapeTest.{shape-allowed, and-then}
 use Rattle.block.specs.BlockTest.{block-answer}
 use Rattle.frame_file.specs.Lists.{slice-part, part-part, all-zero, all-zero-drop}
-use Rattle.frame_file.specs.FrameFile.{block, block-filler, has-tag, header, header-filler, payload, unpacked-payload, block-count, length-allowed, header-allowed, filler-holds}
+use Rattle.frame_file.specs.FrameFile.{block, block-filler, has-tag, header, header-filler, payload, unpacked-payload, length-allowed, header-allowed, filler-holds}
 use Rattle.reader.specs.ReadSteps.{header-answer, first-answer, later-answer, later-answers}
 
 -- ---- zero bytes
@@ -129,12 +129,3 @@ module _ (file : List ℕ) (m n count : ℕ) (h : n < count) where
 pub later-end : (file : List ℕ) (m n count : ℕ) → n ≡ count → later-answers file m n (count - n) ≡ Done
 unfolding later-answers
 later-end file m n count h = let none : count - n ≡ 0 = omega arith in rw none
-
--- a block that has samples starts before the last of them
-pub block-starts : (m n : ℕ) → n < block-count m → 400 * (n - 1) ≤ m
-unfolding block-count
-block-starts m n h = omega arith
-
-pub some-blocks : (m : ℕ) → 1 ≤ block-count m
-unfolding block-count
-some-blocks m = omega arith

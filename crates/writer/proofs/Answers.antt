@@ -2,46 +2,26 @@
 use mathlib.Core.Path.{_≡_, sym, _∙_, ap}
 use mathlib.Core.Bool.{true}
 use mathlib.Core.List.{List}
-use Prim.Native.Nat.{ℕ, _*_, _≤_}
-use native.Mathlib.Nat.{mul-le-mul}
+use Prim.Native.Nat.{ℕ, _*_}
 use native.Mathlib.Omega.{arith}
-use lib.Dec.{leb, eqb}
+use lib.Dec.{eqb}
 use lib.ListN.{length}
 use borrow.Author.Tests.{ne-eqb}
-use Rattle.toolkit.specs.Tests.{leb-le, eqb-eq, eqb-yes}
+use Rattle.toolkit.specs.Tests.{eqb-yes}
 use Rattle.frame.specs.declared.Shape.{Shape}
 use Rattle.frame.specs.declared.Refusal.{Refusal}
-use Rattle.frame.specs.declared.Refusal.the-variants.{Size, Phase, MosaicLength, BufferLength}
+use Rattle.frame.specs.declared.Refusal.the-variants.{BufferLength}
 use Rattle.frame.specs.declared.Answer.{Answer}
 use Rattle.frame.specs.declared.Answer.the-variants.{Done, Refused}
-use Rattle.frame.specs.Sites.{frame, side-allowed, phase-allowed, highest-sample}
+use Rattle.frame.specs.Sites.{frame, highest-sample}
 use Rattle.frame.specs.Calls.{tested, samples-answer}
-use Rattle.frame.specs.Admission.{and-true, tested-done, samples-done}
+use Rattle.frame.specs.Admission.{samples-done}
 use Rattle.admission.specs.ShapeTest.{shape-answer, and-then}
 use Rattle.admission.specs.InOrder.{in-order}
+use Rattle.admission.specs.Allowed.{shape-passes, count-most}
 use Rattle.frame_file.specs.Lists.{below-from}
 use Rattle.frame_file.specs.FrameFile.{block-count, file-length, written-file, write-answer, file-after-write}
 use Rattle.writer.specs.Ready.{Ready}
-
--- a shape that passes numbers 1 to 3
-pub record Allowed (shape : Shape) (count : ℕ) : Type 0 where
-  pub width : shape .width ≤ 4096
-  pub height : shape .height ≤ 4096
-  pub phase : shape .phase ≤ 3
-  pub samples : count ≡ shape .height * shape .width
-
-side-most : (n : ℕ) → side-allowed n ≡ true → n ≤ 4096
-unfolding side-allowed
-side-most n e = leb-le n 4096 (and-true (leb 2 n) (leb n 4096) e .1)
-
-pub shape-passes : (shape : Shape) (count : ℕ) → shape-answer shape count ≡ Done → Allowed shape count
-unfolding shape-answer phase-allowed
-shape-passes shape count e =
-    let sides = tested-done _ Size _ e in
-    let phase = tested-done _ Phase _ (sides .1) in
-    let samples = tested-done _ MosaicLength _ (phase .1) in
-    let both = and-true (side-allowed (shape .width)) (side-allowed (shape .height)) (sides .0) in
-    record { width = side-most _ (both .0); height = side-most _ (both .1); phase = leb-le _ 3 (phase .0); samples = eqb-eq _ _ (samples .0) }
 
 module _ (shape : Shape) (mosaic file : List ℕ) where
   abbrev answer : Answer
@@ -52,30 +32,31 @@ module _ (shape : Shape) (mosaic file : List ℕ) where
   unfolding write-answer
   answer-is = in-order shape mosaic (eqb (length file) (file-length (frame shape mosaic)))
 
+  -- what write returns and leaves
+  abbrev pub Wrote : Answer → List ℕ → Type 0
+  Wrote a last = (a ≡ answer) × (last ≡ file-after-write (frame shape mosaic) file)
+
   -- a refusal is answered, and leaves the file
-  refused-so : (why : Refusal) → answer ≡ Refused why → (Refused why ≡ answer) × (file ≡ file-after-write (frame shape mosaic) file)
+  refused-so : (why : Refusal) → answer ≡ Refused why → Wrote (Refused why) file
   unfolding file-after-write
   refused-so why e = (sym e, rw e)
 
-  pub shape-refused : (why : Refusal) → shape-answer shape (length mosaic) ≡ Refused why → (Refused why ≡ answer) × (file ≡ file-after-write (frame shape mosaic) file)
+  pub shape-refused : (why : Refusal) → shape-answer shape (length mosaic) ≡ Refused why → Wrote (Refused why) file
   shape-refused why e = refused-so why (answer-is ∙ rw e)
 
   module _ (done : shape-answer shape (length mosaic) ≡ Done) where
-    pub count-most : length mosaic ≤ 16777216
-    count-most = let a = shape-passes shape (length mosaic) done in omega (arith, a .samples, mul-le-mul (a .height) (a .width))
-
     file-length-is : file-length (frame shape mosaic) ≡ 512 * block-count (length mosaic)
     unfolding file-length
     file-length-is = ap (λ (n : ℕ). 512 * block-count n) (sym (shape-passes shape (length mosaic) done .samples))
 
-    pub size-refused : ¬ (length file ≡ 512 * block-count (length mosaic)) → (Refused BufferLength ≡ answer) × (file ≡ file-after-write (frame shape mosaic) file)
+    pub size-refused : ¬ (length file ≡ 512 * block-count (length mosaic)) → Wrote (Refused BufferLength) file
     size-refused h = refused-so BufferLength (answer-is ∙ rw (done, ne-eqb (length file) (file-length (frame shape mosaic)) (λ q. h (q ∙ file-length-is))))
 
     module _ (size : length file ≡ 512 * block-count (length mosaic)) where
       right-size : eqb (length file) (file-length (frame shape mosaic)) ≡ true
       right-size = eqb-yes (size ∙ sym file-length-is)
 
-      pub samples-refused : (why : Refusal) → samples-answer 0 mosaic ≡ Refused why → (Refused why ≡ answer) × (file ≡ file-after-write (frame shape mosaic) file)
+      pub samples-refused : (why : Refusal) → samples-answer 0 mosaic ≡ Refused why → Wrote (Refused why) file
       samples-refused why e = refused-so why (answer-is ∙ rw (done, right-size) e)
 
       module _ (small : samples-answer 0 mosaic ≡ Done) where
@@ -86,11 +67,11 @@ module _ (shape : Shape) (mosaic file : List ℕ) where
             record {
               phase-small = a .phase;
               count = a .samples;
-              most = count-most;
+              most = count-most shape (length mosaic) a;
               samples-small = below-from 1024 mosaic (omega arith) (λ k h. omega (arith, samples-done 0 mosaic small k h));
               size = size;
             }
 
-        pub all-written : (last : List ℕ) → last ≡ written-file (frame shape mosaic) → (Done ≡ answer) × (last ≡ file-after-write (frame shape mosaic) file)
+        pub all-written : (last : List ℕ) → last ≡ written-file (frame shape mosaic) → Wrote Done last
         unfolding file-after-write
         all-written last e = let d : answer ≡ Done = answer-is ∙ rw (done, right-size) small in (sym d, rw d e)

@@ -1,7 +1,7 @@
 -- The blocks of a file, written one after the other. Assumes nothing.
 use mathlib.Core.Path.{_≡_, refl, sym, _∙_, ap, ap₂}
 use mathlib.Core.List.{List, [], _++_, append-nil}
-use Prim.Native.Nat.{ℕ, zero, suc, _+_, _*_, _-_, _≤_, _<_}
+use Prim.Native.Nat.{ℕ, zero, suc, _+_, _*_, _-_, _≤_}
 use native.Mathlib.Omega.{arith}
 use lib.ListN.{length, drop, drop-of-length-le}
 use lib.Seq.{drop-at}
@@ -58,12 +58,3 @@ written-all shape mosaic before file n h count size w first =
     ∙ ap (λ (t : List ℕ). joined n (written-block (frame shape mosaic)) ++ t) (drop-of-length-le before none)
     ∙ append-nil (joined n (written-block (frame shape mosaic)))
     ∙ ap (λ (k : ℕ). joined k (written-block (frame shape mosaic))) (h ∙ ap block-count count)
-
--- a block that has samples starts inside the mosaic
-pub block-starts : (m n : ℕ) → n < block-count m → 400 * (n - 1) ≤ m
-unfolding block-count
-block-starts m n h = omega arith
-
-pub some-blocks : (m : ℕ) → 1 ≤ block-count m
-unfolding block-count
-some-blocks m = omega arith

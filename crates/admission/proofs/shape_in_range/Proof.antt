@@ -1,3 +1,4 @@
+-- `admission::shape_in_range` meets its contract. Assumes nothing.
 use Rattle.admission.proofs.Answers.{width-out, height-out, phase-out, shape-in}
 use borrow.Author.Needs.{needs}
 use Rattle.admission.proofs.shape_in_range.Statement.{statement}

@@ -1,3 +1,4 @@
+-- `admission::side_in_range` meets its contract. Assumes nothing.
 use Rattle.admission.proofs.Answers.{side-small, side-large, side-between}
 use Rattle.admission.proofs.side_in_range.Statement.{statement}
 use Rattle.admission.proofs.side_in_range.Tie as tie

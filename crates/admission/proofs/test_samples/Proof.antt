@@ -1,3 +1,4 @@
+-- `admission::test_samples` meets its contract. The invariant: no sample before position k is above 1,023. Assumes nothing.
 use mathlib.Core.Path.{_≡_, refl, sym, _∙_}
 use Prim.Native.Nat.{_-_}
 use lib.ListN.{length, drop}

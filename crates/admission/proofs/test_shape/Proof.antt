@@ -1,3 +1,4 @@
+-- `admission::test_shape` meets its contract. Assumes nothing.
 use Rattle.admission.proofs.Answers.{side-at-most, width-refused, height-refused, phase-refused, length-refused, shape-done}
 use borrow.Author.Needs.{needs}
 use Rattle.admission.proofs.test_shape.Statement.{statement}
@@ -22,10 +23,18 @@ sample-count-requires : tie.Need-sample-count-requires
 sample-count-requires c κs = (side-at-most _ (c .before .before .before .before .before .side-in-range .ensures) (c .before .before .before .before .if1 .left), side-at-most _ (c .before .before .before .side-in-range2 .ensures) (c .before .before .if2 .left))
 
 returns-4 : tie.Need-returns-4
-returns-4 c = length-refused _ (c .before .before .before .before .before .before .before .side-in-range .ensures) (c .before .before .before .before .before .before .if1 .left) (c .before .before .before .before .before .side-in-range2 .ensures) (c .before .before .before .before .if2 .left) (c .before .before .if3 .left) _ (c .before .sample-count .ensures .0) (c .if4 .taken)
+returns-4 c =
+    let height = c .before .before .before .before in
+    let width = height .before .before in
+    length-refused _ (width .before .side-in-range .ensures) (width .if1 .left) (height .before .side-in-range2 .ensures) (height .if2 .left) (c .before .before .if3 .left) _
+    (c .before .sample-count .ensures .0) (c .if4 .taken)
 
 returns-5 : tie.Need-returns-5
-returns-5 c = shape-done _ (c .before .before .before .before .before .before .before .side-in-range .ensures) (c .before .before .before .before .before .before .if1 .left) (c .before .before .before .before .before .side-in-range2 .ensures) (c .before .before .before .before .if2 .left) (c .before .before .if3 .left) _ (c .before .sample-count .ensures .0) (c .if4 .left)
+returns-5 c =
+    let height = c .before .before .before .before in
+    let width = height .before .before in
+    shape-done _ (width .before .side-in-range .ensures) (width .if1 .left) (height .before .side-in-range2 .ensures) (height .if2 .left) (c .before .before .if3 .left) _
+    (c .before .sample-count .ensures .0) (c .if4 .left)
 
 pub test-shape-spec : {M : Type 1} → statement M
 test-shape-spec =

@@ -1,3 +1,4 @@
+-- `block::bytes4` meets its contract. Assumes nothing.
 use mathlib.Core.Path.{refl}
 use Rattle.frame_file.specs.FrameFile.{little-endian-bytes}
 use borrow.Author.Needs.{needs}

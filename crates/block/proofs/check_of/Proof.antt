@@ -1,3 +1,4 @@
+-- `block::check_of` meets its contract. The invariant: the sum is over the first k bytes. Assumes nothing.
 use Prim.Native.Nat.{_-_}
 use Rattle.frame_file.specs.Check.{term-bound}
 use Rattle.block.proofs.Loops.{Summed, summed-none, summed-next, summed-all}

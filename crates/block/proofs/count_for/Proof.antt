@@ -1,3 +1,4 @@
+-- `block::count_for` meets its contract. Assumes nothing.
 use mathlib.Core.Path.{refl}
 use Rattle.frame_file.specs.FrameFile.{block-count}
 use native.Mathlib.Omega.{arith}

@@ -1,3 +1,4 @@
+-- `block::number2` meets its contract. Assumes nothing.
 use mathlib.Core.Path.{sym, _∙_, ap₂}
 use Prim.Native.Nat.{ℕ, _+_, _*_}
 use Rattle.frame_file.specs.LittleEndian.{number-of-two}

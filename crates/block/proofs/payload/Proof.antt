@@ -1,3 +1,4 @@
+-- `block::payload` meets its contract. Assumes nothing.
 use mathlib.Core.Path.{_∙_, ap}
 use Prim.Native.Nat.{_+_, _*_}
 use lib.ListN.{length}

@@ -1,3 +1,4 @@
+-- `block::tagged` meets its contract. The invariant: the first k bytes of the tag are there. Assumes nothing.
 use mathlib.Core.Path.{_≡_, sym, _∙_}
 use Prim.Native.Nat.{_-_, _≤_}
 use Rattle.frame_file.specs.FrameFile.{tag, has-tag}

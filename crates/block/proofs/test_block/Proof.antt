@@ -1,3 +1,4 @@
+-- `block::test_block` meets its contract. Assumes nothing.
 use Rattle.block.proofs.Answers.{check-refused, number-refused, block-passes}
 use borrow.Author.Needs.{needs}
 use Rattle.block.proofs.test_block.Statement.{statement}

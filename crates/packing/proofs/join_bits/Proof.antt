@@ -1,3 +1,4 @@
+-- `packing::join_bits` meets its contract. Assumes nothing.
 use lib.Bits.{and-le-r}
 use Rattle.packing.proofs.Bits.{sample-sum}
 use native.Mathlib.Omega.{arith}

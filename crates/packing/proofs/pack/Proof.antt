@@ -1,3 +1,4 @@
+-- `packing::pack` meets its contract. Assumes nothing.
 use Rattle.frame_file.specs.FrameFile.{packed}
 use native.Mathlib.Omega.{arith}
 use borrow.Author.Needs.{needs}

@@ -1,3 +1,4 @@
+-- `packing::store_bytes` meets its contract. Assumes nothing.
 use Rattle.packing.proofs.Parts.{copied}
 use borrow.Author.Needs.{needs}
 use Rattle.packing.proofs.store_bytes.Statement.{statement}

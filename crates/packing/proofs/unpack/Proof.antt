@@ -1,3 +1,4 @@
+-- `packing::unpack` meets its contract. Assumes nothing.
 use Rattle.frame_file.specs.FrameFile.{unpacked}
 use borrow.Author.Needs.{needs}
 use Rattle.packing.proofs.unpack.Statement.{statement}

@@ -1,3 +1,4 @@
+-- `payload::pack_group` meets its contract. Assumes nothing.
 use mathlib.Core.Path.{_∙_}
 use Rattle.payload.proofs.Groups.{four-below, packed-group}
 use borrow.Author.Needs.{needs}

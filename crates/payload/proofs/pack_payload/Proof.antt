@@ -1,3 +1,4 @@
+-- `payload::pack_payload` meets its contract. The invariant: the first g groups are stored. Assumes nothing.
 use Rattle.frame_file.specs.Raw10.{length-packed}
 use Rattle.payload.proofs.Groups.{Stored, stored-none, stored-next, stored-all}
 use mathlib.Core.Path.{sym, _∙_, ap}

@@ -1,3 +1,4 @@
+-- `payload::sample_or_zero` meets its contract. Assumes nothing.
 use mathlib.Core.Path.{refl, sym}
 use lib.ListN.{List·getD-eq-default}
 use native.Mathlib.Omega.{arith}

@@ -1,3 +1,4 @@
+-- `payload::store_group` meets its contract. Assumes nothing.
 use Rattle.payload.proofs.Groups.{four-stores}
 use borrow.Author.Needs.{needs}
 use Rattle.payload.proofs.store_group.Statement.{statement}
@@ -41,9 +42,14 @@ same-length c = search needs
 
 returns : tie.Need-returns
 returns c =
-    four-stores (c .before .before .before .before .before .before .before .before .before .before .before .before .before .before .before .before .before .args .samples .now) (c .before .before .before .before .before .before .before .before .before .before .before .before .before .before .store-sample .last .0) (c .before .before .before .before .before .before .before .before .before .before .store-sample2 .last .0) (c .before .before .before .before .before .before .store-sample3 .last .0) (c .before .before .store-sample4 .last .0)
-    (c .before .before .before .before .before .before .before .before .before .before .before .before .before .before .before .before .before .args .t3) (c .before .before .before .before .before .before .before .before .before .before .before .before .before .before .before .before .before .args .k) (c .before .before .before .before .before .before .before .before .before .before .before .before .before .before .before .before .before .pre .1)
-    (c .before .before .before .before .before .before .before .before .before .before .before .before .before .before .store-sample .ensures) (c .before .before .before .before .before .before .before .before .before .before .store-sample2 .ensures) (c .before .before .before .before .before .before .store-sample3 .ensures) (c .before .before .store-sample4 .ensures)
+    let fourth = c .before .before in
+    let third = fourth .before .before .before .before in
+    let second = third .before .before .before .before in
+    let first = second .before .before .before .before in
+    let start = first .before .before .before in
+    four-stores (start .args .samples .now) (first .store-sample .last .0) (second .store-sample2 .last .0) (third .store-sample3 .last .0) (fourth .store-sample4 .last .0)
+    (start .args .t3) (start .args .k) (start .pre .1)
+    (first .store-sample .ensures) (second .store-sample2 .ensures) (third .store-sample3 .ensures) (fourth .store-sample4 .ensures)
 
 pub store-group-spec : {M : Type 1} → statement M
 store-group-spec =

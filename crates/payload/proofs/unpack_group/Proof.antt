@@ -1,3 +1,4 @@
+-- `payload::unpack_group` meets its contract. Assumes nothing.
 use mathlib.Core.Path.{_∙_}
 use Rattle.payload.proofs.Groups.{unpacked-group}
 use borrow.Author.Needs.{needs}

@@ -1,3 +1,4 @@
+-- `payload::unpack_payload` meets its contract. The invariant: the first k samples are stored, a whole number of groups. Assumes nothing.
 use mathlib.Core.Path.{_∙_, ap}
 use Prim.Native.Nat.{_-_}
 use lib.ListN.{length}

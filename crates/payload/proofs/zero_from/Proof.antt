@@ -1,3 +1,4 @@
+-- `payload::zero_from` meets its contract. The invariant: the samples before position k are zero. Assumes nothing.
 use Rattle.payload.proofs.Groups.{zero-on, zero-stop}
 use mathlib.Core.Path.{_≡_, refl, sym, _∙_}
 use Prim.Native.Nat.{_-_}

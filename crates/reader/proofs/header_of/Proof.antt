@@ -1,3 +1,4 @@
+-- `reader::header_of` meets its contract. Assumes nothing.
 use lib.ListN.{getD}
 use Rattle.frame_file.specs.FrameFile.{header}
 use native.Mathlib.Omega.{arith}

@@ -1,10 +1,27 @@
-use mathlib.Core.Path.{sym, _∙_}
+-- `reader::read` meets its contract. Assumes nothing.
+use mathlib.Core.Path.{_≡_, sym, _∙_}
+use Rattle.frame.specs.declared.Answer.the-variants.{Done}
+use Rattle.reader.specs.ReadSteps.{first-answer}
 use Rattle.frame_file.specs.Lists.{part}
 use Rattle.frame_file.specs.FrameFile.{block}
-use Rattle.reader.proofs.Outcomes.{file-long, sides-small, first-refused, size-refused, room-refused, front-fits, blocks-refused, all-read}
+use Rattle.reader.proofs.Readings.{Counted, file-long, sides-small, first-refused, size-refused, room-refused, front-fits, blocks-refused, all-read}
 use borrow.Author.Needs.{needs}
 use Rattle.reader.proofs.read.Statement.{statement}
 use Rattle.reader.proofs.read.Tie as tie
+
+-- block 0 passes its tests
+first-passed : (c : tie.After-enum-told) → first-answer (c .before .before .before .before .before .args .file .now) ≡ Done
+first-passed c = sym (c .before .before .test-first .ensures) ∙ c .enum-told .given .1
+
+-- samples and blocks are counted
+counted : (c : tie.After-count-for) → Counted (c .before .before .before .before .before .before .before .before .before .args .file .now) (c .before .before .header-of .result) (c .before .sample-count .result) (c .count-for .result)
+unfolding block part
+counted c = record {
+  done = first-passed (c .before .before .before .before);
+  shape-is = c .before .before .header-of .ensures;
+  samples-are = c .before .sample-count .ensures .0;
+  blocks-are = c .count-for .ensures .0;
+}
 
 test-first-requires : tie.Need-test-first-requires
 test-first-requires c κs = search needs
@@ -25,15 +42,14 @@ part-header-of-start : tie.Need-part-header-of-start
 part-header-of-start c = search needs
 
 part-header-of-end : tie.Need-part-header-of-end
-part-header-of-end c =
-    let long = file-long (c .before .before .before .before .before .args .file .now) (sym (c .before .before .test-first .ensures) ∙ c .enum-told .given .1) in search needs
+part-header-of-end c = let long = file-long _ (first-passed c) in search needs
 
 header-of-requires : tie.Need-header-of-requires
 header-of-requires c κs = search needs
 
 sample-count-requires : tie.Need-sample-count-requires
 unfolding block part
-sample-count-requires c κs = sides-small (c .before .before .before .before .before .before .before .args .file .now) (sym (c .before .before .before .before .test-first .ensures) ∙ c .before .before .enum-told .given .1) _ (c .header-of .ensures)
+sample-count-requires c κs = sides-small (c .before .before .before .before .before .before .before .args .file .now) (first-passed (c .before .before)) _ (c .header-of .ensures)
 
 count-for-requires : tie.Need-count-for-requires
 count-for-requires c κs = search needs
@@ -42,12 +58,10 @@ mul-size : tie.Need-mul-size
 mul-size c = search needs
 
 returns-2 : tie.Need-returns-2
-unfolding block part
-returns-2 c = size-refused (c .before .before .before .before .before .before .before .before .before .before .args .file .now) (c .before .before .before .before .before .before .before .before .before .before .args .samples .now) (sym (c .before .before .before .before .before .before .before .test-first .ensures) ∙ c .before .before .before .before .before .enum-told .given .1) _ (c .before .before .before .header-of .ensures) _ (c .before .before .sample-count .ensures .0) _ (c .before .count-for .ensures .0) (c .if1 .taken)
+returns-2 c = size-refused _ _ _ _ _ (counted (c .before)) (c .if1 .taken)
 
 returns-3 : tie.Need-returns-3
-unfolding block part
-returns-3 c = room-refused (c .before .before .before .before .before .before .before .before .before .before .before .args .file .now) (c .before .before .before .before .before .before .before .before .before .before .before .args .samples .now) (sym (c .before .before .before .before .before .before .before .before .test-first .ensures) ∙ c .before .before .before .before .before .before .enum-told .given .1) _ (c .before .before .before .before .header-of .ensures) _ (c .before .before .before .sample-count .ensures .0) _ (c .before .before .count-for .ensures .0) (c .before .if1 .left) (c .if2 .taken)
+returns-3 c = room-refused _ _ _ _ _ (counted (c .before .before)) (c .before .if1 .left) (c .if2 .taken)
 
 test-blocks-requires : tie.Need-test-blocks-requires
 test-blocks-requires c κs = search needs
@@ -68,19 +82,20 @@ part-unpack-blocks-end : tie.Need-part-unpack-blocks-end
 part-unpack-blocks-end c = search needs
 
 unpack-blocks-requires : tie.Need-unpack-blocks-requires
-unfolding block part
-unpack-blocks-requires c κs = front-fits (c .before .before .before .before .before .before .before .before .before .before .before .before .before .before .before .args .file .now) (c .before .before .before .before .before .before .before .before .before .before .before .before .before .before .before .args .samples .now) (sym (c .before .before .before .before .before .before .before .before .before .before .before .before .test-first .ensures) ∙ c .before .before .before .before .before .before .before .before .before .before .enum-told .given .1) _ (c .before .before .before .before .before .before .before .before .header-of .ensures) _ (c .before .before .before .before .before .before .before .sample-count .ensures .0) _ (c .before .before .before .before .before .before .count-for .ensures .0) (c .before .before .before .before .before .if1 .left) (c .before .before .before .before .if2 .left)
+unpack-blocks-requires c κs = front-fits _ _ _ _ _ (counted (c .before .before .before .before .before .before)) (c .before .before .before .before .before .if1 .left) (c .before .before .before .before .if2 .left)
 
 returns-4 : tie.Need-returns-4
-unfolding block part
-returns-4 c = blocks-refused (c .before .before .before .before .before .before .before .before .before .before .before .before .before .before .before .args .file .now) (c .before .before .before .before .before .before .before .before .before .before .before .before .before .before .before .args .samples .now) (sym (c .before .before .before .before .before .before .before .before .before .before .before .before .test-first .ensures) ∙ c .before .before .before .before .before .before .before .before .before .before .enum-told .given .1) _ (c .before .before .before .before .before .before .before .before .header-of .ensures) _ (c .before .before .before .before .before .before .before .sample-count .ensures .0) _ (c .before .before .before .before .before .before .count-for .ensures .0) (c .before .before .before .before .before .if1 .left) (c .before .before .before .before .if2 .left) _ (sym (c .before .before .before .test-blocks .ensures) ∙ c .before .why2 .given .1)
+returns-4 c =
+    blocks-refused _ _ _ _ _ (counted (c .before .before .before .before .before .before)) (c .before .before .before .before .before .if1 .left) (c .before .before .before .before .if2 .left) _ (sym (c .before .before .before .test-blocks .ensures) ∙ c .before .why2 .given .1)
 
 same-length : tie.Need-same-length
 same-length c = search needs
 
 returns-5 : tie.Need-returns-5
-unfolding block part
-returns-5 c = all-read (c .before .before .before .before .before .before .before .before .before .before .before .before .before .before .before .before .before .before .args .file .now) (c .before .before .before .before .before .before .before .before .before .before .before .before .before .before .before .before .before .before .args .samples .now) (sym (c .before .before .before .before .before .before .before .before .before .before .before .before .before .before .before .test-first .ensures) ∙ c .before .before .before .before .before .before .before .before .before .before .before .before .before .enum-told .given .1) _ (c .before .before .before .before .before .before .before .before .before .before .before .header-of .ensures) _ (c .before .before .before .before .before .before .before .before .before .before .sample-count .ensures .0) _ (c .before .before .before .before .before .before .before .before .before .count-for .ensures .0) (c .before .before .before .before .before .before .before .before .if1 .left) (c .before .before .before .before .before .before .before .if2 .left) (sym (c .before .before .before .before .before .before .test-blocks .ensures) ∙ c .before .before .before .before .enum-told2 .given .1) _ (c .before .before .unpack-blocks .ensures)
+returns-5 c =
+    let tested = c .before .before .before .before .before .before in
+    all-read _ _ _ _ _ (counted (tested .before .before .before)) (tested .before .before .if1 .left) (tested .before .if2 .left) (sym (tested .test-blocks .ensures) ∙ c .before .before .before .before .enum-told2 .given .1) _
+    (c .before .before .unpack-blocks .ensures)
 
 pub read-spec : {M : Type 1} → statement M
 read-spec =

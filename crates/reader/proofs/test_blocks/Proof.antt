@@ -1,7 +1,9 @@
+-- `reader::test_blocks` meets its contract. The invariant: the blocks before block n pass. Assumes nothing.
+use Rattle.frame_file.specs.BlockCount.{some-blocks, block-starts}
 use mathlib.Core.Path.{_≡_, refl, sym, _∙_}
 use Prim.Native.Nat.{_-_, _≤_}
 use Rattle.reader.specs.ReadSteps.{later-answers}
-use Rattle.reader.proofs.Tests.{later-on, later-stop, later-end, block-starts, some-blocks}
+use Rattle.reader.proofs.Tests.{later-on, later-stop, later-end}
 use native.Mathlib.Omega.{arith}
 use borrow.Author.Needs.{needs}
 use Rattle.reader.proofs.test_blocks.Statement.{statement}

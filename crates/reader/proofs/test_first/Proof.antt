@@ -1,3 +1,4 @@
+-- `reader::test_first` meets its contract. Assumes nothing.
 use mathlib.Core.Path.{sym, _∙_}
 use Rattle.frame_file.specs.Lists.{part}
 use Rattle.frame_file.specs.FrameFile.{block}
@@ -44,11 +45,16 @@ test-header-requires c κs = search needs
 
 returns-3 : tie.Need-returns-3
 unfolding block part
-returns-3 c = block-refused (c .before .before .before .before .before .before .before .before .args .file .now) (c .before .before .before .before .before .before .if1 .left) (c .before .before .before .before .before .if2 .left) _ (sym (c .before .before .before .test-block .ensures) ∙ c .before .why .given .1)
+returns-3 c =
+    let even = c .before .before .before .before .before in
+    block-refused _ (even .before .if1 .left) (even .if2 .left) _ (sym (c .before .before .before .test-block .ensures) ∙ c .before .why .given .1)
 
 returns-4 : tie.Need-returns-4
 unfolding block part
-returns-4 c = header-next (c .before .before .before .before .before .before .before .before .before .args .file .now) (c .before .before .before .before .before .before .before .if1 .left) (c .before .before .before .before .before .before .if2 .left) _ (sym (c .before .before .before .before .test-block .ensures) ∙ c .before .before .enum-told .given .1) (c .test-header .ensures)
+returns-4 c =
+    let passed = c .before .before in
+    let even = passed .before .before .before .before in
+    header-next _ (even .before .if1 .left) (even .if2 .left) _ (sym (passed .before .before .test-block .ensures) ∙ passed .enum-told .given .1) (c .test-header .ensures)
 
 pub test-first-spec : {M : Type 1} → statement M
 test-first-spec =

@@ -1,3 +1,4 @@
+-- `reader::test_header` meets its contract. Assumes nothing.
 use Rattle.frame_file.specs.Lists.{part}
 use Rattle.frame_file.specs.FrameFile.{header-filler}
 use Rattle.reader.proofs.Tests.{tag-refused, shape-refused, filler-refused, header-done}
@@ -34,11 +35,17 @@ zero-requires c κs = search needs
 
 returns-3 : tie.Need-returns-3
 unfolding part header-filler
-returns-3 c = filler-refused _ (c .before .before .before .before .before .before .before .tagged .ensures) (c .before .before .before .before .before .before .if1 .left) (c .before .before .before .before .before .header-of .ensures) (c .before .before .before .before .shape-in-range .ensures) (c .before .before .before .if2 .left) (c .before .zero .ensures) (c .if3 .taken)
+returns-3 c =
+    let shape = c .before .before .before in
+    let tag = shape .before .before .before in
+    filler-refused _ (tag .before .tagged .ensures) (tag .if1 .left) (shape .before .before .header-of .ensures) (shape .before .shape-in-range .ensures) (shape .if2 .left) (c .before .zero .ensures) (c .if3 .taken)
 
 returns-4 : tie.Need-returns-4
 unfolding part header-filler
-returns-4 c = header-done _ (c .before .before .before .before .before .before .before .tagged .ensures) (c .before .before .before .before .before .before .if1 .left) (c .before .before .before .before .before .header-of .ensures) (c .before .before .before .before .shape-in-range .ensures) (c .before .before .before .if2 .left) (c .before .zero .ensures) (c .if3 .left)
+returns-4 c =
+    let shape = c .before .before .before in
+    let tag = shape .before .before .before in
+    header-done _ (tag .before .tagged .ensures) (tag .if1 .left) (shape .before .before .header-of .ensures) (shape .before .shape-in-range .ensures) (shape .if2 .left) (c .before .zero .ensures) (c .if3 .left)
 
 pub test-header-spec : {M : Type 1} → statement M
 test-header-spec =

@@ -1,3 +1,4 @@
+-- `reader::test_later` meets its contract. Assumes nothing.
 use Rattle.reader.proofs.Tests.{later-refused, bytes-refused, samples-refused, later-done}
 use borrow.Author.Needs.{needs}
 use Rattle.reader.proofs.test_later.Statement.{statement}
@@ -25,7 +26,9 @@ enum-known-why : tie.Need-enum-known-why
 enum-known-why c = search needs
 
 returns : tie.Need-returns
-returns c = later-refused (c .before .before .before .before .before .before .args .file .now) (c .before .before .before .before .before .before .args .samples) (c .before .before .before .before .before .before .args .n) (c .before .before .before .test-block .ensures) _ (c .before .why .given .1)
+returns c =
+    let start = c .before .before .before .before .before .before .args in
+    later-refused (start .file .now) (start .samples) (start .n) (c .before .before .before .test-block .ensures) _ (c .before .why .given .1)
 
 enum-told : tie.Need-enum-told
 enum-told c = search needs
@@ -49,7 +52,10 @@ zero-requires : tie.Need-zero-requires
 zero-requires c κs = search needs
 
 returns-2 : tie.Need-returns-2
-returns-2 c = bytes-refused (c .before .before .before .before .before .before .before .before .args .file .now) (c .before .before .before .before .before .before .before .before .args .samples) (c .before .before .before .before .before .before .before .before .args .n) (c .before .before .before .before .before .test-block .ensures) (c .before .before .before .enum-told .given .1) (c .before .zero .ensures) (c .if1 .taken)
+returns-2 c =
+    let passed = c .before .before .before in
+    let start = passed .before .before .before .before .before .args in
+    bytes-refused (start .file .now) (start .samples) (start .n) (passed .before .before .test-block .ensures) (passed .enum-told .given .1) (c .before .zero .ensures) (c .if1 .taken)
 
 payload-requires : tie.Need-payload-requires
 payload-requires c κs = search needs
@@ -67,10 +73,20 @@ zero-from-requires : tie.Need-zero-from-requires
 zero-from-requires c κs = search needs
 
 returns-3 : tie.Need-returns-3
-returns-3 c = samples-refused (c .before .before .before .before .before .before .before .before .before .before .before .args .file .now) (c .before .before .before .before .before .before .before .before .before .before .before .args .samples) (c .before .before .before .before .before .before .before .before .before .before .before .args .n) (c .before .before .before .before .before .before .before .before .test-block .ensures) (c .before .before .before .before .before .before .enum-told .given .1) (c .before .before .before .before .zero .ensures) (c .before .before .before .if1 .left) (c .before .before .payload .ensures .0) (c .before .zero-from .ensures) (c .if2 .taken)
+returns-3 c =
+    let bytes = c .before .before .before in
+    let passed = bytes .before .before .before in
+    let start = passed .before .before .before .before .before .args in
+    samples-refused (start .file .now) (start .samples) (start .n) (passed .before .before .test-block .ensures) (passed .enum-told .given .1) (bytes .before .zero .ensures) (bytes .if1 .left)
+    (c .before .before .payload .ensures .0) (c .before .zero-from .ensures) (c .if2 .taken)
 
 returns-4 : tie.Need-returns-4
-returns-4 c = later-done (c .before .before .before .before .before .before .before .before .before .before .before .args .file .now) (c .before .before .before .before .before .before .before .before .before .before .before .args .samples) (c .before .before .before .before .before .before .before .before .before .before .before .args .n) (c .before .before .before .before .before .before .before .before .test-block .ensures) (c .before .before .before .before .before .before .enum-told .given .1) (c .before .before .before .before .zero .ensures) (c .before .before .before .if1 .left) (c .before .before .payload .ensures .0) (c .before .zero-from .ensures) (c .if2 .left)
+returns-4 c =
+    let bytes = c .before .before .before in
+    let passed = bytes .before .before .before in
+    let start = passed .before .before .before .before .before .args in
+    later-done (start .file .now) (start .samples) (start .n) (passed .before .before .test-block .ensures) (passed .enum-told .given .1) (bytes .before .zero .ensures) (bytes .if1 .left)
+    (c .before .before .payload .ensures .0) (c .before .zero-from .ensures) (c .if2 .left)
 
 pub test-later-spec : {M : Type 1} → statement M
 test-later-spec =

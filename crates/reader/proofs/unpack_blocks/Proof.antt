@@ -1,6 +1,8 @@
+-- `reader::unpack_blocks` meets its contract. The invariant: the samples before position `start`, the first of block n, are stored. Assumes nothing.
+use Rattle.frame_file.specs.BlockCount.{block-inside}
 use Prim.Native.Nat.{_-_}
 use lib.ListN.{length, length-take, length-drop}
-use Rattle.reader.proofs.Samples.{Unpacked, unpacked-none, unpacked-next, unpacked-all, block-inside}
+use Rattle.reader.proofs.Samples.{Unpacked, unpacked-none, unpacked-next, unpacked-all}
 use native.Mathlib.Omega.{arith}
 use borrow.Author.Needs.{needs}
 use Rattle.reader.proofs.unpack_blocks.Statement.{statement}
@@ -19,7 +21,10 @@ end-of-requires : tie.Need-end-of-requires Inv-loop μ-loop
 end-of-requires c κs = search needs
 
 payload-requires : tie.Need-payload-requires Inv-loop μ-loop
-payload-requires c κs = omega (arith, c .before .before .before .before .before .pre, block-inside (length (c .before .before .before .before .before .args .samples .now)) (c .before .before .loop .n) (c .before .before .loop .inv .low) (omega (arith, c .before .before .loop .inv .place, c .before .before .loop .inv .size)))
+payload-requires c κs =
+    let at-loop = c .before .before in
+    let inv = at-loop .loop .inv in
+    omega (arith, at-loop .before .before .before .pre, block-inside (length (at-loop .before .before .before .args .samples .now)) (at-loop .loop .n) (inv .low) (omega (arith, inv .place, inv .size)))
 
 mul-unpack-payload : tie.Need-mul-unpack-payload Inv-loop μ-loop
 mul-unpack-payload c = search needs
@@ -37,7 +42,10 @@ unpack-payload-requires : tie.Need-unpack-payload-requires Inv-loop μ-loop
 unpack-payload-requires c κs = (c .before .payload .ensures .1, simp (length-take, length-drop) (omega (arith, c .before .before .end-of .ensures)))
 
 add-n : tie.Need-add-n Inv-loop μ-loop
-add-n c = omega (arith, c .before .before .before .before .before .before .before .before .before .before .pre, block-inside (length (c .before .before .before .before .before .before .before .before .before .before .args .samples .now)) (c .before .before .before .before .before .before .before .loop .n) (c .before .before .before .before .before .before .before .loop .inv .low) (omega (arith, c .before .before .before .before .before .before .before .loop .inv .place, c .before .before .before .before .before .before .before .loop .inv .size)))
+add-n c =
+    let at-loop = c .before .before .before .before .before .before .before in
+    let inv = at-loop .loop .inv in
+    omega (arith, at-loop .before .before .before .pre, block-inside (length (at-loop .before .before .before .args .samples .now)) (at-loop .loop .n) (inv .low) (omega (arith, inv .place, inv .size)))
 
 loop-less : tie.Need-loop-less Inv-loop μ-loop
 loop-less c = omega (arith, c .before .before .before .before .before .end-of .ensures, c .before .before .before .before .before .before .before .loop .inv .size)

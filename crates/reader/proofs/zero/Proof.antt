@@ -1,3 +1,4 @@
+-- `reader::zero` meets its contract. The invariant: the first k bytes are zero. Assumes nothing.
 use mathlib.Core.Path.{_≡_, refl, sym, _∙_}
 use Prim.Native.Nat.{_-_}
 use lib.ListN.{length, drop}

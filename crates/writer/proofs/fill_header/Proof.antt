@@ -1,3 +1,4 @@
+-- `writer::fill_header` meets its contract. Assumes nothing.
 use Rattle.writer.proofs.Blocks.{header-composed}
 use borrow.Author.Needs.{needs}
 use Rattle.writer.proofs.fill_header.Statement.{statement}
@@ -19,7 +20,11 @@ same-length : tie.Need-same-length
 same-length c = search needs
 
 returns : tie.Need-returns
-returns c = header-composed _ _ _ _ _ (c .before .before .before .before .before .before .before .before .before .before .before .pre .0 .1) (c .before .before .before .before .before .before .before .before .before .header-front .ensures) (c .before .before .before .before .before .before .store-bytes .ensures) (c .before .before .store-check .ensures)
+returns c =
+    let checked = c .before .before in
+    let stored = checked .before .before .before .before in
+    let front = stored .before .before .before in
+    header-composed _ _ _ _ _ (front .before .before .pre .0 .1) (front .header-front .ensures) (stored .store-bytes .ensures) (checked .store-check .ensures)
 
 pub fill-header-spec : {M : Type 1} → statement M
 fill-header-spec =

@@ -1,3 +1,4 @@
+-- `writer::fill_samples` meets its contract. Assumes nothing.
 use Rattle.writer.proofs.Blocks.{samples-composed}
 use borrow.Author.Needs.{needs}
 use Rattle.writer.proofs.fill_samples.Statement.{statement}
@@ -31,7 +32,12 @@ same-length : tie.Need-same-length
 same-length c = search needs
 
 returns : tie.Need-returns
-returns c = samples-composed _ _ _ _ _ _ _ (c .before .before .before .before .before .before .before .before .before .before .before .before .before .before .before .before .pre .0 .1) (c .before .before .before .before .before .before .before .before .before .before .before .before .before .bytes4 .ensures) (c .before .before .before .before .before .before .pack-payload .ensures) (c .before .before .before .before .before .before .before .before .before .before .store-bytes .ensures) (c .before .before .store-check .ensures)
+returns c =
+    let checked = c .before .before in
+    let packed = checked .before .before .before .before in
+    let stored = packed .before .before .before .before in
+    let number = stored .before .before .before in
+    samples-composed _ _ _ _ _ _ _ (number .before .before .before .pre .0 .1) (number .bytes4 .ensures) (packed .pack-payload .ensures) (stored .store-bytes .ensures) (checked .store-check .ensures)
 
 pub fill-samples-spec : {M : Type 1} → statement M
 fill-samples-spec =

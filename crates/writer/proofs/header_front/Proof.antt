@@ -1,3 +1,4 @@
+-- `writer::header_front` meets its contract. Assumes nothing.
 use mathlib.Core.Path.{refl}
 use Rattle.frame_file.specs.Lists.{part}
 use Rattle.frame_file.specs.FrameFile.{header-bytes, little-endian-bytes, tag}

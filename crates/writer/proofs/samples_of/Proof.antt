@@ -1,3 +1,4 @@
+-- `writer::samples_of` meets its contract. Assumes nothing.
 use Prim.Native.Nat.{_*_, _-_}
 use Rattle.frame_file.specs.Lists.{slice-part}
 use Rattle.writer.proofs.Blocks.{part-to-end}

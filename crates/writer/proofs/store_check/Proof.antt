@@ -1,3 +1,4 @@
+-- `writer::store_check` meets its contract. Assumes nothing.
 use mathlib.Core.Path.{_∙_, ap}
 use Rattle.frame_file.specs.FrameFile.{little-endian-bytes}
 use Rattle.writer.proofs.Blocks.{check-stored}

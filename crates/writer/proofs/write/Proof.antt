@@ -1,9 +1,28 @@
-use mathlib.Core.Path.{sym, _∙_, ap}
+-- `writer::write` meets its contract. Assumes nothing.
+use Rattle.frame.specs.declared.Answer.the-variants.{Done}
+use Rattle.frame.specs.Calls.{samples-answer}
+use Rattle.admission.specs.ShapeTest.{shape-answer}
+use Rattle.frame_file.specs.FrameFile.{block-count}
+use lib.ListN.{length}
+use Rattle.admission.specs.Allowed.{shape-passes, count-most}
+use mathlib.Core.Path.{_≡_, sym, _∙_, ap}
 use Prim.Native.Nat.{ℕ, _*_}
-use Rattle.writer.proofs.Answers.{shape-refused, count-most, size-refused, samples-refused, ready, all-written}
+use Rattle.writer.proofs.Answers.{shape-refused, size-refused, samples-refused, ready, all-written}
 use borrow.Author.Needs.{needs}
 use Rattle.writer.proofs.write.Statement.{statement}
 use Rattle.writer.proofs.write.Tie as tie
+
+-- the shape passes its tests
+passed : (c : tie.After-enum-told) → shape-answer (c .before .before .before .before .before .args .shape) (length (c .before .before .before .before .before .args .mosaic .now)) ≡ Done
+passed c = sym (c .before .before .test-shape .ensures) ∙ c .enum-told .given .1
+
+-- the file has its length
+sized : (c : tie.Else1) → length (c .before .before .before .before .before .before .before .args .file .now) ≡ 512 * block-count (length (c .before .before .before .before .before .before .before .args .mosaic .now))
+sized c = c .if1 .left ∙ ap (λ (n : ℕ). 512 * n) (c .before .count-for .ensures .0)
+
+-- the samples are in range
+small : (c : tie.After-enum-told2) → samples-answer 0 (c .before .before .before .before .before .before .before .before .before .before .args .mosaic .now) ≡ Done
+small c = sym (c .before .before .test-samples .ensures) ∙ c .enum-told2 .given .1
 
 test-shape-requires : tie.Need-test-shape-requires
 test-shape-requires c κs = search needs
@@ -18,13 +37,13 @@ enum-told : tie.Need-enum-told
 enum-told c = search needs
 
 count-for-requires : tie.Need-count-for-requires
-count-for-requires c κs = count-most (c .before .before .before .before .before .args .shape) (c .before .before .before .before .before .args .mosaic .now) (c .before .before .before .before .before .args .file .now) (sym (c .before .before .test-shape .ensures) ∙ c .enum-told .given .1)
+count-for-requires c κs = count-most _ _ (shape-passes (c .before .before .before .before .before .args .shape) (length (c .before .before .before .before .before .args .mosaic .now)) (passed c))
 
 mul-size : tie.Need-mul-size
 mul-size c = search needs
 
 returns-2 : tie.Need-returns-2
-returns-2 c = size-refused _ _ _ (sym (c .before .before .before .before .test-shape .ensures) ∙ c .before .before .enum-told .given .1) (λ q. c .if1 .taken (q ∙ ap (λ (n : ℕ). 512 * n) (sym (c .before .count-for .ensures .0))))
+returns-2 c = size-refused _ _ _ (passed (c .before .before)) (λ q. c .if1 .taken (q ∙ ap (λ (n : ℕ). 512 * n) (sym (c .before .count-for .ensures .0))))
 
 test-samples-requires : tie.Need-test-samples-requires
 test-samples-requires c κs = search needs
@@ -36,16 +55,18 @@ enum-told-2 : tie.Need-enum-told-2
 enum-told-2 c = search needs
 
 write-blocks-requires : tie.Need-write-blocks-requires
-write-blocks-requires c κs = ready (c .before .before .before .before .before .before .before .before .before .before .before .args .shape) (c .before .before .before .before .before .before .before .before .before .before .before .args .mosaic .now) (c .before .before .before .before .before .before .before .before .before .before .before .args .file .now) (sym (c .before .before .before .before .before .before .before .before .test-shape .ensures) ∙ c .before .before .before .before .before .before .enum-told .given .1) (c .before .before .before .before .if1 .left ∙ ap (λ (n : ℕ). 512 * n) (c .before .before .before .before .before .count-for .ensures .0)) (sym (c .before .before .before .test-samples .ensures) ∙ c .before .enum-told2 .given .1)
+write-blocks-requires c κs =
+    let start = c .before .before .before .before .before .before .before .before .before .before .before .args in
+    ready (start .shape) (start .mosaic .now) (start .file .now) (passed (c .before .before .before .before .before .before)) (sized (c .before .before .before .before)) (small (c .before))
 
 returns-3 : tie.Need-returns-3
-returns-3 c = samples-refused _ _ _ (sym (c .before .before .before .before .before .before .before .before .test-shape .ensures) ∙ c .before .before .before .before .before .before .enum-told .given .1) (c .before .before .before .before .if1 .left ∙ ap (λ (n : ℕ). 512 * n) (c .before .before .before .before .before .count-for .ensures .0)) _ (sym (c .before .before .before .test-samples .ensures) ∙ c .before .why2 .given .1)
+returns-3 c = samples-refused _ _ _ (passed (c .before .before .before .before .before .before)) (sized (c .before .before .before .before)) _ (sym (c .before .before .before .test-samples .ensures) ∙ c .before .why2 .given .1)
 
 same-length : tie.Need-same-length
 same-length c = search needs
 
 returns-4 : tie.Need-returns-4
-returns-4 c = all-written _ _ _ (sym (c .before .before .before .before .before .before .before .before .before .before .before .test-shape .ensures) ∙ c .before .before .before .before .before .before .before .before .before .enum-told .given .1) (c .before .before .before .before .before .before .before .if1 .left ∙ ap (λ (n : ℕ). 512 * n) (c .before .before .before .before .before .before .before .before .count-for .ensures .0)) (sym (c .before .before .before .before .before .before .test-samples .ensures) ∙ c .before .before .before .before .enum-told2 .given .1) _ (c .before .before .write-blocks .ensures)
+returns-4 c = all-written _ _ _ (passed (c .before .before .before .before .before .before .before .before .before)) (sized (c .before .before .before .before .before .before .before)) (small (c .before .before .before .before)) _ (c .before .before .write-blocks .ensures)
 
 pub write-spec : {M : Type 1} → statement M
 write-spec =

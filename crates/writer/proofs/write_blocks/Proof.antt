@@ -1,8 +1,10 @@
+-- `writer::write_blocks` meets its contract. The invariant: the first n blocks are written. Assumes nothing.
+use Rattle.frame_file.specs.BlockCount.{some-blocks, block-starts}
 use mathlib.Core.Path.{sym, subst}
 use lib.ListN.{length}
 use Rattle.frame_file.specs.Lists.{Below, below-part}
 use Prim.Native.Nat.{_-_, _≤_}
-use Rattle.writer.proofs.Files.{Written, first-written, written-none, written-next, written-all, block-starts, some-blocks}
+use Rattle.writer.proofs.Files.{Written, first-written, written-none, written-next, written-all}
 use native.Mathlib.Omega.{arith}
 use borrow.Author.Needs.{needs}
 use Rattle.writer.proofs.write_blocks.Statement.{statement}
@@ -24,7 +26,10 @@ loop-holds : tie.Need-loop-holds Inv-loop μ-loop
 loop-holds c = (omega (arith, c .before .before .before .before .count-for .ensures .0, some-blocks (length (c .before .before .before .before .before .before .before .args .mosaic .now))), written-none _ _)
 
 samples-of-requires : tie.Need-samples-of-requires Inv-loop μ-loop
-samples-of-requires c κs = (c .before .before .loop .inv .1 .low, block-starts (length (c .before .before .before .before .before .before .before .before .before .before .args .mosaic .now)) (c .before .before .loop .n) (omega (arith, c .before .before .before .before .before .before .before .count-for .ensures .0)))
+samples-of-requires c κs =
+    let n = c .before .before .loop .n in
+    let starts = block-starts (length (c .before .before .before .before .before .before .before .before .before .before .args .mosaic .now)) n (omega (arith, c .before .before .before .before .before .before .before .count-for .ensures .0)) in
+    (omega (arith, c .before .before .loop .inv .1 .low), omega (arith, starts))
 
 write-samples-requires : tie.Need-write-samples-requires Inv-loop μ-loop
 write-samples-requires c κs =
@@ -41,8 +46,12 @@ loop-less c = search needs
 
 loop-again : tie.Need-loop-again Inv-loop μ-loop
 loop-again c =
-    let count = c .before .before .before .before .before .before .before .before .before .before .before .count-for .ensures in
-    (omega arith, written-next _ _ _ _ _ _ (omega (arith, count, c .before .before .before .before .before .before .before .before .before .before .before .before .before .before .pre .size, c .before .before .before .before .before .before .loop .inv .1 .size)) (c .before .before .before .before .before .before .loop .inv .1) (c .before .before .before .samples-of .ensures) (c .before .before .write-samples .ensures))
+    let stored = c .before .before in
+    let samples = stored .before in
+    let at-loop = samples .before .before .before in
+    let start = at-loop .before .before .before .before .before .before .before .before in
+    let count = at-loop .before .before .before .before .before .count-for .ensures in
+    (omega arith, written-next _ _ _ _ _ _ (omega (arith, count, start .pre .size, at-loop .loop .inv .1 .size)) (at-loop .loop .inv .1) (samples .samples-of .ensures) (stored .write-samples .ensures))
 
 same-length : tie.Need-same-length Inv-loop μ-loop
 same-length c = omega (arith, c .before .loop .inv .1 .size)

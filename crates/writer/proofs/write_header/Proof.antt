@@ -1,3 +1,4 @@
+-- `writer::write_header` meets its contract. Assumes nothing.
 use mathlib.Core.Path.{refl, _∙_, ap}
 use Rattle.frame_file.specs.Lists.{zeros, put-at}
 use borrow.Author.Needs.{needs}

@@ -1,3 +1,4 @@
+-- `writer::write_samples` meets its contract. Assumes nothing.
 use mathlib.Core.Path.{refl, _∙_, ap}
 use Prim.Native.Nat.{_*_}
 use Rattle.frame_file.specs.Lists.{zeros, put-at}
@@ -25,7 +26,11 @@ same-length : tie.Need-same-length
 same-length c = search needs
 
 returns : tie.Need-returns
-returns c = c .before .before .store-bytes .ensures ∙ ap (put-at (c .before .before .before .before .before .before .before .before .before .before .args .file .now) (512 * c .before .before .before .before .before .before .before .before .before .before .args .n)) (c .before .before .before .before .before .before .fill-samples .ensures)
+returns c =
+    let stored = c .before .before in
+    let filled = stored .before .before .before .before in
+    let start = filled .before .before .before .before .args in
+    stored .store-bytes .ensures ∙ ap (put-at (start .file .now) (512 * start .n)) (filled .fill-samples .ensures)
 
 pub write-samples-spec : {M : Type 1} → statement M
 write-samples-spec =
