@@ -70,7 +70,14 @@ module _ (shape : Shape) {w : Bool} (ew : w ≡ side-allowed (shape .width)) whe
       module _ (hp : shape .phase ≤ 3) (count : ℕ) {m : ℕ} (em : m ≡ shape .height * shape .width) where
         pub length-refused : ¬ (count ≡ m) → Refused MosaicLength ≡ shape-answer shape count
         unfolding shape-answer phase-allowed
-        length-refused h = rw (sym ew ∙ not-false w hw, sym et ∙ not-false t ht, leb-yes hp, ne-eqb count (shape .height * shape .width) (λ q. h (q ∙ sym em)))
+        length-refused h =
+            rw (
+              sym ew ∙ not-false w hw,
+              sym et
+                  ∙ not-false t ht,
+              leb-yes hp,
+              ne-eqb count (shape .height * shape .width) (λ q. h (q ∙ sym em)),
+            )
 
         pub shape-done : count ≡ m → Done ≡ shape-answer shape count
         unfolding shape-answer phase-allowed
@@ -78,11 +85,13 @@ module _ (shape : Shape) {w : Bool} (ew : w ≡ side-allowed (shape .width)) whe
 
 -- ---- samples
 
-sample-step : (l : List ℕ) (k : ℕ) → k < length l → samples-answer k (drop k l) ≡ tested (leb (getD l k 0) highest-sample) (Sample k) (samples-answer (k + 1) (drop (k + 1) l))
+sample-step : (l : List ℕ) (k : ℕ) → k < length l
+    → samples-answer k (drop k l) ≡ tested (leb (getD l k 0) highest-sample) (Sample k) (samples-answer (k + 1) (drop (k + 1) l))
 unfolding samples-answer
 sample-step l k h = rw (add-one, drop-cons l k 0 h)
 
-pub sample-on : (l : List ℕ) (k : ℕ) → k < length l → getD l k 0 ≤ 1023 → samples-answer k (drop k l) ≡ samples-answer (k + 1) (drop (k + 1) l)
+pub sample-on : (l : List ℕ) (k : ℕ) → k < length l → getD l k 0 ≤ 1023
+    → samples-answer k (drop k l) ≡ samples-answer (k + 1) (drop (k + 1) l)
 unfolding highest-sample
 sample-on l k h small = sample-step l k h ∙ rw (leb-yes small)
 

@@ -30,7 +30,13 @@ shape-passes shape count e =
     let phase = tested-done _ Phase _ (sides .1) in
     let samples = tested-done _ MosaicLength _ (phase .1) in
     let both = and-true (side-allowed (shape .width)) (side-allowed (shape .height)) (sides .0) in
-    record { width = side-most _ (both .0); height = side-most _ (both .1); phase = leb-le _ 3 (phase .0); samples = eqb-eq _ _ (samples .0) }
+    record {
+      width = side-most _ (both .0);
+      height = side-most _ (both .1);
+      phase = leb-le _ 3 (phase .0);
+      samples = eqb-eq _ _
+          (samples .0);
+    }
 
 -- W·H of such a shape
 pub count-most : (shape : Shape) (count : ℕ) → Allowed shape count → count ≤ 16777216

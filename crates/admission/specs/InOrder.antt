@@ -14,14 +14,17 @@ use Rattle.frame.specs.Calls.{tested, samples-answer, answer-in-order}
 use Rattle.admission.specs.ShapeTest.{shape-answer, and-then}
 
 three-tests : (sides phase count : Bool) (rest : Answer)
-    → tested sides Size (tested phase Phase (tested count MosaicLength rest)) ≡ and-then (tested sides Size (tested phase Phase (tested count MosaicLength Done))) rest
+    → tested sides Size (tested phase Phase (tested count MosaicLength rest)) ≡ and-then
+    (tested sides Size (tested phase Phase (tested count MosaicLength Done))) rest
 three-tests true true true rest = refl
 three-tests true true false rest = refl
 three-tests true false count rest = refl
 three-tests false phase count rest = refl
 
 pub in-order : (shape : Shape) (mosaic : List ℕ) (allowed : Bool)
-    → answer-in-order (frame shape mosaic) allowed ≡ and-then (shape-answer shape (length mosaic)) (tested allowed BufferLength (samples-answer 0 mosaic))
+    → answer-in-order (frame shape mosaic) allowed ≡ and-then (shape-answer shape (length mosaic))
+    (tested allowed BufferLength (samples-answer 0 mosaic))
 unfolding answer-in-order shape-answer
 in-order shape mosaic allowed =
-    three-tests (side-allowed (shape .width) && side-allowed (shape .height)) (phase-allowed (shape .phase)) (eqb (length mosaic) (shape .height * shape .width)) _
+    three-tests (side-allowed (shape .width) && side-allowed (shape .height)) (phase-allowed (shape .phase))
+    (eqb (length mosaic) (shape .height * shape .width)) _

@@ -43,7 +43,8 @@ summed-all b sum k h s = let all : k ≡ 508 = omega (arith, s .inside) in s .is
 abbrev pub tagged-from : List ℕ → ℕ → Bool
 tagged-from b k = same (part b (4 + k) (4 - k)) (drop k tag)
 
-tag-step : (b : List ℕ) (k : ℕ) → length b ≡ 512 → k < 4 → tagged-from b k ≡ (eqb (getD b (4 + k) 0) (getD tag k 0) && tagged-from b (k + 1))
+tag-step : (b : List ℕ) (k : ℕ) → length b ≡ 512 → k < 4
+    → tagged-from b k ≡ (eqb (getD b (4 + k) 0) (getD tag k 0) && tagged-from b (k + 1))
 unfolding same tag
 tag-step b k size h =
     let left : 4 - k ≡ suc (4 - (k + 1)) = omega arith in

@@ -21,7 +21,8 @@ pub record WrittenFrom (f : Frame) (file : List ℕ) (room : ℕ) : Type 0 where
 
 -- ---- a file that is accepted is what write makes
 
-pub accepted-is-written : (file : List ℕ) → Below 256 file → (room : ℕ) (f : Frame) → reading file room ≡ accepted f → WrittenFrom f file room
+pub accepted-is-written : (file : List ℕ) → Below 256 file → (room : ℕ) (f : Frame) → reading file room ≡ accepted f
+    → WrittenFrom f file room
 accepted-is-written file bytes room f e =
     let h = header-of-accepted file room f e in
     let c : ℕ = block-count (sample-count (stored-frame file)) in

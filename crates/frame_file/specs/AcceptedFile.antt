@@ -31,7 +31,8 @@ module _ (file : List ℕ) (bytes : Below 256 file) (room : ℕ) (p : HeaderPass
   first-block : block file 0 ≡ written-block (stored-frame file) 0
   unfolding written-block stored-frame stored-samples
   first-block =
-      header-from-tests (block file 0) (whole-block 0 (some-blocks (sample-count (stored-frame file)))) (block-bytes 0) (p .check) (p .number) (allowed-header (block file 0) (p .allowed) .tagged)
+      header-from-tests (block file 0) (whole-block 0 (some-blocks (sample-count (stored-frame file)))) (block-bytes 0) (p .check)
+      (p .number) (allowed-header (block file 0) (p .allowed) .tagged)
       (p .filler)
 
   later-block : (n : ℕ) → suc n < block-count (sample-count (stored-frame file))
@@ -45,17 +46,20 @@ module _ (file : List ℕ) (bytes : Below 256 file) (room : ℕ) (p : HeaderPass
       let samples : block-samples (stored-frame file .samples) (suc n) ≡ unpacked-payload (payload file (suc n)) =
       block-samples-joined m (block-count m - 1) stored (λ i. length-unpacked-payload (payload file (suc i))) n (omega arith)
       (subst (λ (k : ℕ). all-zero (drop (m - 400 * k) (stored n)) ≡ true) one (fillers .1)) in
-      samples-from-tests (block file (suc n)) (whole-block (suc n) h) (block-bytes (suc n)) (suc n) (block-samples (stored-frame file .samples) (suc n)) (q .check) (q .number) (fillers .0)
+      samples-from-tests (block file (suc n)) (whole-block (suc n) h) (block-bytes (suc n)) (suc n)
+      (block-samples (stored-frame file .samples) (suc n)) (q .check) (q .number) (fillers .0)
       (samples ∙ ap unpacked-payload (payload-of-block file (suc n)))
 
-  pub file-is-written : ((n : ℕ) → 1 ≤ n → n < block-count (sample-count (stored-frame file)) → Passes file (sample-count (stored-frame file)) n)
+  pub file-is-written :
+      ((n : ℕ) → 1 ≤ n → n < block-count (sample-count (stored-frame file)) → Passes file (sample-count (stored-frame file)) n)
       → file ≡ written-file (stored-frame file)
   unfolding written-file file-length block
   file-is-written each =
       let c : ℕ = block-count (sample-count (stored-frame file)) in
       sym (take-all (512 * c) file (omega (arith, p .count)))
       ∙ joined-parts file 512 c
-      ∙ joined-cong c (block file) (written-block (stored-frame file)) (elim [ zero ↦ λ h. first-block | suc n ↦ λ h. later-block n h (each (suc n) (omega arith) h) ])
+      ∙ joined-cong c (block file) (written-block (stored-frame file))
+      (elim [ zero ↦ λ h. first-block | suc n ↦ λ h. later-block n h (each (suc n) (omega arith) h) ])
 
   stored-samples-below : Below 1024 (stored-frame file .samples)
   unfolding stored-frame stored-samples payload part
@@ -63,7 +67,8 @@ module _ (file : List ℕ) (bytes : Below 256 file) (room : ℕ) (p : HeaderPass
       let m : ℕ = sample-count (stored-frame file) in
       let stored : ℕ → List ℕ = λ i. unpacked-payload (payload file (suc i)) in
       below-part 1024 (joined (block-count m - 1) stored) 0 m
-      (below-joined 1024 (block-count m - 1) stored (omega arith) (λ i. below-unpacked-payload (payload file (suc i)) (below-part 256 file (512 * suc i + 4) 500 bytes)))
+      (below-joined 1024 (block-count m - 1) stored (omega arith)
+      (λ i. below-unpacked-payload (payload file (suc i)) (below-part 256 file (512 * suc i + 4) 500 bytes)))
 
   stored-samples-count : length (stored-frame file .samples) ≡ sample-count (stored-frame file)
   unfolding stored-frame stored-samples

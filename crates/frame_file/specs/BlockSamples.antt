@@ -26,7 +26,8 @@ pub filled-up-front : (s : List ℕ) (u : ℕ) → length s ≡ 400 → all-zero
 unfolding filled-up
 filled-up-front s u e z =
     let count : 400 - length (take u s) ≡ length (drop u s) = omega (arith, length-take u s, length-drop u s) in
-    ap (λ (n : ℕ). take u s ++ zeros n) count ∙ ap (λ (t : List ℕ). take u s ++ t) (sym (all-zero-zeros (drop u s) z)) ∙ take-append-drop u s
+    ap (λ (n : ℕ). take u s ++ zeros n) count ∙ ap (λ (t : List ℕ). take u s ++ t) (sym (all-zero-zeros (drop u s) z))
+    ∙ take-append-drop u s
 
 -- past the samples, what fills up is zero
 pub filled-up-zero : (s : List ℕ) (u : ℕ) → length s ≤ u → all-zero (drop u (filled-up s)) ≡ true
@@ -39,7 +40,8 @@ filled-up-zero s u h =
 
 pub block-samples-zero : (s : List ℕ) (n : ℕ) → all-zero (drop (length s - 400 * (n - 1)) (block-samples s n)) ≡ true
 unfolding block-samples
-block-samples-zero s n = filled-up-zero (part s (400 * (n - 1)) 400) (length s - 400 * (n - 1)) (omega (arith, length-part-min s (400 * (n - 1)) 400))
+block-samples-zero s n =
+    filled-up-zero (part s (400 * (n - 1)) 400) (length s - 400 * (n - 1)) (omega (arith, length-part-min s (400 * (n - 1)) 400))
 
 -- ---- a frame's samples from those of its blocks
 
@@ -61,7 +63,8 @@ part-filled-up s c i h =
 -- the blocks' samples, one block after the other, begin with the frame's
 pub joined-block-samples : (s : List ℕ) (c : ℕ) → length s ≤ 400 * c → take (length s) (joined c (λ i. block-samples s (suc i))) ≡ s
 joined-block-samples s c h =
-    ap (take (length s)) (sym (joined-cong c (λ i. part (s ++ zeros (400 * c)) (400 * i) 400) (λ i. block-samples s (suc i)) (part-filled-up s c)))
+    ap (take (length s))
+    (sym (joined-cong c (λ i. part (s ++ zeros (400 * c)) (400 * i) 400) (λ i. block-samples s (suc i)) (part-filled-up s c)))
     ∙ ap (take (length s)) (sym (joined-parts (s ++ zeros (400 * c)) 400 c))
     ∙ take-take (length s) (400 * c) (s ++ zeros (400 * c)) h
     ∙ take-at s (zeros (400 * c)) (length s) refl

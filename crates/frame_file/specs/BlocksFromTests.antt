@@ -48,7 +48,9 @@ module _ (b : List ℕ) (size : length b ≡ 512) (bytes : Below 256 b) where
   header-from-tests c n t z = check-holds-with-check b size bytes c ∙ ap with-check (header-part n t z)
 
   payload-part : (s : List ℕ) → s ≡ unpacked-payload (part b 4 500) → part b 4 500 ≡ packed-payload s
-  payload-part s e = sym (ap packed-payload e ∙ packed-unpacked-payload (part b 4 500) (length-part b 4 500 (omega arith)) (below-part 256 b 4 500 bytes))
+  payload-part s e =
+      sym (ap packed-payload e
+      ∙ packed-unpacked-payload (part b 4 500) (length-part b 4 500 (omega arith)) (below-part 256 b 4 500 bytes))
 
   pub samples-from-tests : (n : ℕ) (samples : List ℕ) → check-holds b ≡ true → number-holds b n ≡ true → all-zero (block-filler b) ≡ true
       → samples ≡ unpacked-payload (part b 4 500) → b ≡ with-check (sample-bytes n samples)

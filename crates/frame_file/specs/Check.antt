@@ -52,7 +52,9 @@ below-with-check l h = below-append 256 l (little-endian-bytes 4 (check l)) h (b
 
 check-with-check : (l : List ℕ) → length l ≡ 508 → check (with-check l) ≡ check l
 unfolding with-check
-check-with-check l e = check-cong (l ++ little-endian-bytes 4 (check l)) l (λ k h. List·getD-append l (little-endian-bytes 4 (check l)) 0 k (omega arith))
+check-with-check l e =
+    check-cong (l ++ little-endian-bytes 4 (check l)) l
+    (λ k h. List·getD-append l (little-endian-bytes 4 (check l)) 0 k (omega arith))
 
 stored-check-with-check : (l : List ℕ) → length l ≡ 508 → Below 256 l → stored-check (with-check l) ≡ check l
 unfolding with-check stored-check

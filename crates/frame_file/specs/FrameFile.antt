@@ -133,7 +133,8 @@ with-check l = l ++ little-endian-bytes 4 (check l)
 -- block 0 before its check
 unfoldable pub header-bytes : Shape → List ℕ
 header-bytes shape =
-    little-endian-bytes 4 0 ++ (tag ++ (little-endian-bytes 2 (shape .width) ++ (little-endian-bytes 2 (shape .height) ++ (shape .phase ∷ zeros 495))))
+    little-endian-bytes 4 0 ++
+    (tag ++ (little-endian-bytes 2 (shape .width) ++ (little-endian-bytes 2 (shape .height) ++ (shape .phase ∷ zeros 495))))
 
 -- block n, from 1, with its samples, before its check
 unfoldable pub sample-bytes : ℕ → List ℕ → List ℕ

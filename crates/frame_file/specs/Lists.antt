@@ -87,7 +87,8 @@ pub part-set-past : (l : List ℕ) (k v a n : ℕ) → a + n ≤ k → part (set
 unfolding part
 part-set-past l k v a n h =
     let e : k ≡ a + (k - a) = omega arith in
-    ap (λ (j : ℕ). take n (drop a (set l j v))) e ∙ ap (take n) (drop-set-add a l (k - a) v) ∙ take-set-le n (drop a l) (k - a) v (omega arith)
+    ap (λ (j : ℕ). take n (drop a (set l j v))) e ∙ ap (take n) (drop-set-add a l (k - a) v)
+    ∙ take-set-le n (drop a l) (k - a) v (omega arith)
 
 pub part-set-before : (l : List ℕ) (k v a n : ℕ) → k < a → part (set l k v) a n ≡ part l a n
 unfolding part
@@ -126,7 +127,8 @@ module _ (piece : ℕ → List ℕ) (m : ℕ) (each : (i : ℕ) → length (piec
   pub part-joined : (n i : ℕ) → i < n → part (joined n piece) (m * i) m ≡ piece i
   unfolding joined
   part-joined zero i h = absurd (omega arith)
-  part-joined (suc n) i h = ⊎-elim (λ (e : i ≡ n). rw e (last n)) (λ (k : i < n). before n i k ∙ part-joined n i k) (eq-or-lt-of-le (below n i h))
+  part-joined (suc n) i h =
+      ⊎-elim (λ (e : i ≡ n). rw e (last n)) (λ (k : i < n). before n i k ∙ part-joined n i k) (eq-or-lt-of-le (below n i h))
     where
       below : (n i : ℕ) → i < suc n → i ≤ n
       below n i h = omega arith
@@ -149,14 +151,22 @@ put-at l a m = take a l ++ (m ++ drop (a + length m) l)
 pub length-put-at : (l : List ℕ) (a : ℕ) (m : List ℕ) → a + length m ≤ length l → length (put-at l a m) ≡ length l
 unfolding put-at
 length-put-at l a m h =
-    omega (arith, length-append (take a l) (m ++ drop (a + length m) l), length-append m (drop (a + length m) l), length-drop (a + length m) l, length-take-le a l (omega arith))
+    omega (
+      arith,
+      length-append (take a l) (m ++ drop (a + length m) l),
+      length-append m (drop (a + length m) l),
+      length-drop (a + length m) l,
+      length-take-le a l (omega arith),
+    )
 
 -- a list that is filled up to position k, filled further
-pub put-at-next : (front rest m : List ℕ) (k : ℕ) → length front ≡ k → put-at (front ++ drop k rest) k m ≡ (front ++ m) ++ drop (k + length m) rest
+pub put-at-next : (front rest m : List ℕ) (k : ℕ) → length front ≡ k
+    → put-at (front ++ drop k rest) k m ≡ (front ++ m) ++ drop (k + length m) rest
 unfolding put-at
 put-at-next front rest m k e =
     ap₂ (λ (s t : List ℕ). s ++ (m ++ t)) (take-at front (drop k rest) k e)
-    (ap (λ (n : ℕ). drop (n + length m) (front ++ drop k rest)) (sym e) ∙ drop-append-add front (drop k rest) (length m) ∙ drop-drop (length m) k rest)
+    (ap (λ (n : ℕ). drop (n + length m) (front ++ drop k rest)) (sym e) ∙ drop-append-add front (drop k rest) (length m)
+    ∙ drop-drop (length m) k rest)
     ∙ sym (append-assoc front m (drop (k + length m) rest))
 
 -- pieces put one after the other

@@ -38,7 +38,8 @@ bytes-of-number (b ∷ l) h =
     rw (first, rest) (ap (λ (m : List ℕ). b ∷ m) (bytes-of-number l (λ k. h (suc k))))
 
 -- a part of n bytes is its number as n bytes
-pub part-of-number : (l : List ℕ) (a n : ℕ) → a + n ≤ length l → Below 256 l → part l a n ≡ little-endian-bytes n (little-endian (part l a n))
+pub part-of-number : (l : List ℕ) (a n : ℕ) → a + n ≤ length l → Below 256 l
+    → part l a n ≡ little-endian-bytes n (little-endian (part l a n))
 part-of-number l a n h b =
     sym (bytes-of-number (part l a n) (below-part 256 l a n b))
     ∙ ap (λ (m : ℕ). little-endian-bytes m (little-endian (part l a n))) (length-part l a n h)
@@ -48,7 +49,8 @@ pub number-of-two : (l : List ℕ) (a : ℕ) → a + 2 ≤ length l → little-e
 unfolding little-endian part
 number-of-two l a h = rw (part-cons l a 1 (omega arith), part-cons l (a + 1) 0 (omega arith)) (omega arith)
 
-pub number-of-four : (l : List ℕ) (a : ℕ) → a + 4 ≤ length l → little-endian (part l a 4) ≡ little-endian (part l a 2) + 65536 * little-endian (part l (a + 2) 2)
+pub number-of-four : (l : List ℕ) (a : ℕ) → a + 4 ≤ length l
+    → little-endian (part l a 4) ≡ little-endian (part l a 2) + 65536 * little-endian (part l (a + 2) 2)
 unfolding little-endian
 number-of-four l a h =
     let next : a + 1 + 1 ≡ a + 2 = omega arith in

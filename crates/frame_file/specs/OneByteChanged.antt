@@ -39,7 +39,9 @@ weighted-sum-one (suc n) j f g h others e =
     same-front q = weighted-sum-cong n f g (λ k l. others k (λ r. omega arith))
 
     last : j ≡ n → f n ≡ g n
-    last q = eq-of-mul-eq-mul-left (n + 1) (omega arith) (f n) (g n) (add-left-cancel (weighted-sum f n) (rw (same-front q) (rw (same-front q) at e)))
+    last q =
+        eq-of-mul-eq-mul-left (n + 1) (omega arith) (f n) (g n)
+        (add-left-cancel (weighted-sum f n) (rw (same-front q) (rw (same-front q) at e)))
 
     front : j < n → weighted-sum f n ≡ weighted-sum g n
     front q = add-right-cancel ((n + 1) * g n) (rw (others n (λ (r : n ≡ j). omega arith)) at e)
@@ -62,7 +64,8 @@ module _ (b : List ℕ) (i v : ℕ) (size : length b ≡ 512) (bytes : Below 256
       ∙ sym (part-of-number b 508 4 (omega arith) bytes) in
       let at-i : 508 + (i - 508) ≡ i = omega arith in
       changed (subst (λ (k : ℕ). getD (set b i v) k 0 ≡ getD b k 0) at-i
-      (sym (getD-part (set b i v) 508 4 (i - 508) (omega arith)) ∙ ap (λ (t : List ℕ). getD t (i - 508) 0) same-part ∙ getD-part b 508 4 (i - 508) (omega arith))) l
+      (sym (getD-part (set b i v) 508 4 (i - 508) (omega arith)) ∙ ap (λ (t : List ℕ). getD t (i - 508) 0) same-part
+      ∙ getD-part b 508 4 (i - 508) (omega arith))) l
 
   -- the check of a block differs after any one byte of it is changed
   pub check-differs : i < 512 → check-holds b ≡ true → check-holds (set b i v) ≡ false
@@ -91,7 +94,8 @@ module _ (file : List ℕ) (k v : ℕ) where
   unfolding block
   changed-block =
       let e : 512 * (k / 512) + k % 512 ≡ k = omega arith in
-      ap (λ (j : ℕ). part (set file j v) (512 * (k / 512)) 512) (sym e) ∙ part-set-inside file (k % 512) v (512 * (k / 512)) 512 (omega arith)
+      ap (λ (j : ℕ). part (set file j v) (512 * (k / 512)) 512) (sym e)
+      ∙ part-set-inside file (k % 512) v (512 * (k / 512)) 512 (omega arith)
 
   header-still-passes : (room : ℕ) → 0 < k / 512 → HeaderPasses file room → HeaderPasses (set file k v) room
   unfolding stored-frame file-length
@@ -118,7 +122,8 @@ module _ (file : List ℕ) (k v : ℕ) where
 
 -- ---- the refusal
 
-module _ (f : Frame) (a : Admitted f) (room : ℕ) (enough : sample-count f ≤ room) (k v : ℕ) (inside : k < length (written-file f)) (small : v < 256)
+module _ (f : Frame) (a : Admitted f) (room : ℕ) (enough : sample-count f ≤ room) (k v : ℕ) (inside : k < length (written-file f))
+    (small : v < 256)
     (other : ¬ (v ≡ getD (written-file f) k 0)) where
   in-file : k / 512 < block-count (sample-count f)
   unfolding file-length
@@ -161,11 +166,15 @@ module _ (f : Frame) (a : Admitted f) (room : ℕ) (enough : sample-count f ≤ 
       read-after-header (set (written-file f) k v) room (header-still-passes (written-file f) k v room h header-passes)
       ∙ later-blocks-check (set (written-file f) k v) (stored-frame (set (written-file f) k v)) (k / 512) 1 _ h
       (rw (same-count h) (omega (arith, in-file)))
-      (rw (same-count h) (λ n l m. block-still-passes (written-file f) k v (sample-count f) n m (written-block-passes f a n l (omega (arith, in-file)))))
+      (rw (same-count h)
+      (λ n l m. block-still-passes (written-file f) k v (sample-count f) n m
+      (written-block-passes f a n l (omega (arith, in-file)))))
       changed-check
 
   refused-there : reading (set (written-file f) k v) room ≡ refused (Check (k / 512))
-  refused-there = ⊎-elim (λ (e : k / 512 ≡ 0). changed-in-header e ∙ ap (λ (n : ℕ). refused (Check n)) (sym e)) changed-later (eq-zero-or-pos (k / 512))
+  refused-there =
+      ⊎-elim (λ (e : k / 512 ≡ 0). changed-in-header e ∙ ap (λ (n : ℕ). refused (Check n)) (sym e)) changed-later
+      (eq-zero-or-pos (k / 512))
 
 -- a written file with byte k changed to another byte is refused for its check, at the block of byte k
 pub one-byte-changed : (f : Frame) → Admitted f → (room : ℕ) → sample-count f ≤ room

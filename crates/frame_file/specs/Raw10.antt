@@ -141,11 +141,15 @@ length-unpacked-payload b = length-joined (λ g. unpacked (part b (5 * g) 5)) 4 
 
 pub below-packed-payload : (s : List ℕ) → Below 1024 s → Below 256 (packed-payload s)
 unfolding packed-payload
-below-packed-payload s h = below-joined 256 100 (λ g. packed (part s (4 * g) 4)) (omega arith) (λ g. below-packed (part s (4 * g) 4) (below-part 1024 s (4 * g) 4 h))
+below-packed-payload s h =
+    below-joined 256 100 (λ g. packed (part s (4 * g) 4)) (omega arith)
+    (λ g. below-packed (part s (4 * g) 4) (below-part 1024 s (4 * g) 4 h))
 
 pub below-unpacked-payload : (b : List ℕ) → Below 256 b → Below 1024 (unpacked-payload b)
 unfolding unpacked-payload
-below-unpacked-payload b h = below-joined 1024 100 (λ g. unpacked (part b (5 * g) 5)) (omega arith) (λ g. below-unpacked (part b (5 * g) 5) (below-part 256 b (5 * g) 5 h))
+below-unpacked-payload b h =
+    below-joined 1024 100 (λ g. unpacked (part b (5 * g) 5)) (omega arith)
+    (λ g. below-unpacked (part b (5 * g) 5) (below-part 256 b (5 * g) 5 h))
 
 -- the samples of a payload come back from its bytes
 pub unpacked-packed-payload : (s : List ℕ) → length s ≡ 400 → unpacked-payload (packed-payload s) ≡ s

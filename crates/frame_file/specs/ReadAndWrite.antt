@@ -64,17 +64,21 @@ module _ (file before : List ℕ) (f : Frame) where
 
   samples-equal : (g : Frame) (d : List ℕ) → g .samples ++ d ≡ f .samples ++ d → g .samples ≡ f .samples
   samples-equal g d e =
-      let size : length (f .samples) ≡ length (g .samples) = omega (arith, ap length e, length-append (g .samples) d, length-append (f .samples) d) in
-      sym (take-at (g .samples) d (length (g .samples)) refl) ∙ ap (take (length (g .samples))) e ∙ take-at (f .samples) d (length (g .samples)) size
+      let size : length (f .samples) ≡ length (g .samples) = omega
+      (arith, ap length e, length-append (g .samples) d, length-append (f .samples) d) in
+      sym (take-at (g .samples) d (length (g .samples)) refl) ∙ ap (take (length (g .samples))) e
+      ∙ take-at (f .samples) d (length (g .samples)) size
 
   frames-equal : (g : Frame) → Read.Frame (shape-of g) ≡ Read.Frame (shape-of f)
       → g .samples ++ drop (g .height * g .width) before ≡ f .samples ++ drop (sample-count f) before → g ≡ f
   frames-equal g e s =
       let shapes : shape-of g ≡ shape-of f = cc in
-      let rest : drop (g .height * g .width) before ≡ drop (sample-count f) before = ap (λ (t : Shape). drop (t .height * t .width) before) shapes in
+      let rest : drop (g .height * g .width) before ≡ drop (sample-count f) before = ap
+      (λ (t : Shape). drop (t .height * t .width) before) shapes in
       ap₂ frame shapes (samples-equal g (drop (sample-count f) before) (sym (ap (λ (t : List ℕ). g .samples ++ t) rest) ∙ s))
 
-  reading-is : (o : Reading) → answer-of o ≡ Read.Frame (shape-of f) → samples-of o before ≡ f .samples ++ drop (sample-count f) before → o ≡ accepted f
+  reading-is : (o : Reading) → answer-of o ≡ Read.Frame (shape-of f)
+      → samples-of o before ≡ f .samples ++ drop (sample-count f) before → o ≡ accepted f
   reading-is (accepted g) e s = ap accepted (frames-equal g e s)
   reading-is (refused why) e s = absurd (let z : _≡_ {A = ℕ} 0 1 = cc in omega arith)
 
@@ -87,9 +91,12 @@ module _ (file before : List ℕ) (f : Frame) where
 pub read-yields-what-write-makes : (file : List ℕ) → Below 256 file → (before : List ℕ) (f : Frame)
     → Yields file before f ↔ (Makes f file × (sample-count f ≤ length before))
 read-yields-what-write-makes file bytes before f = (
-  λ y. let w = accepted-is-written file bytes (length before) f (yields-accepted file before f y) in (written-makes f file (w .admitted) (w .written), w .enough),
+  λ y. let w = accepted-is-written file bytes (length before) f (yields-accepted file before f y) in
+      (written-makes f file (w .admitted) (w .written), w .enough),
   λ m. let w = makes-written f file (m .0) in
-      accepted-yields file before f (accepted-exactly-when-written file bytes (length before) f .1 (record { admitted = w .0; written = w .1; enough = m .1 })),
+      accepted-yields file before f
+      (accepted-exactly-when-written file bytes (length before) f .1
+      (record { admitted = w .0; written = w .1; enough = m .1 })),
 )
 
 -- what write leaves, read yields, given room

@@ -20,7 +20,8 @@ use Rattle.frame_file.specs.FrameFile.{sample-count, block, has-tag, hea
 pub refused-not-accepted : {P : Type 0} {why : Refusal} {f : Frame} → refused why ≡ accepted f → P
 refused-not-accepted e = absurd (let z : _≡_ {A = ℕ} 0 1 = cc in omega arith)
 
-pub tested-accepted : (holds : Bool) (why : Refusal) (rest : Reading) (f : Frame) → tested holds why rest ≡ accepted f → (holds ≡ true) × (rest ≡ accepted f)
+pub tested-accepted : (holds : Bool) (why : Refusal) (rest : Reading) (f : Frame) → tested holds why rest ≡ accepted f
+    → (holds ≡ true) × (rest ≡ accepted f)
 tested-accepted true why rest f e = (refl, e)
 tested-accepted false why rest f e = refused-not-accepted e
 
@@ -33,7 +34,8 @@ pub record Passes (file : List ℕ) (samples n : ℕ) : Type 0 where
   pub filler : filler-holds file samples n ≡ true
 
 module _ (file : List ℕ) (f : Frame) where
-  pub later-blocks-passed : (n left : ℕ) → ((i : ℕ) → n ≤ i → i < n + left → Passes file (sample-count f) i) → later-blocks file f n left ≡ accepted f
+  pub later-blocks-passed : (n left : ℕ) → ((i : ℕ) → n ≤ i → i < n + left → Passes file (sample-count f) i)
+      → later-blocks file f n left ≡ accepted f
   unfolding later-blocks
   later-blocks-passed n zero each = refl
   later-blocks-passed n (suc left) each =
@@ -51,7 +53,8 @@ module _ (file : List ℕ) (f : Frame) where
       let rest = later-blocks-accepted g (suc n) left (z .1) in
       let here : Passes file (sample-count f) n = record { check = c .0; number = b .0; filler = z .0 } in (
         rest .0,
-        λ i h l. ⊎-elim (λ (q : n ≡ i). subst (Passes file (sample-count f)) q here) (λ (q : n < i). rest .1 i q (omega arith)) (eq-or-lt-of-le h),
+        λ i h l. ⊎-elim (λ (q : n ≡ i). subst (Passes file (sample-count f)) q here) (λ (q : n < i). rest .1 i q (omega arith))
+            (eq-or-lt-of-le h),
       )
 
   -- the first block whose check differs, after blocks that pass
@@ -102,11 +105,13 @@ read-after-header file room p =
     rw (p .size, p .check, p .number, p .allowed, p .filler, eqb-yes (p .count), leb-yes (p .enough))
 
 -- the check of block 0 is tested next to the length
-pub read-check-0 : (file : List ℕ) (room : ℕ) → length-allowed (length file) ≡ true → check-holds (block file 0) ≡ false → reading file room ≡ refused (Check 0)
+pub read-check-0 : (file : List ℕ) (room : ℕ) → length-allowed (length file) ≡ true → check-holds (block file 0) ≡ false
+    → reading file room ≡ refused (Check 0)
 unfolding reading
 read-check-0 file room size differs = rw (size, differs)
 
-pub header-of-accepted : (file : List ℕ) (room : ℕ) (f : Frame) → reading file room ≡ accepted f → HeaderPasses file room × (after-header file ≡ accepted f)
+pub header-of-accepted : (file : List ℕ) (room : ℕ) (f : Frame) → reading file room ≡ accepted f
+    → HeaderPasses file room × (after-header file ≡ accepted f)
 unfolding reading
 header-of-accepted file room f e =
     let size = tested-accepted (length-allowed (length file)) FileLength _ f e in

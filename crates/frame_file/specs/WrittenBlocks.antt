@@ -64,7 +64,8 @@ module _ (shape : Shape) where
   pub header-filler-zero : all-zero (header-filler (with-check (header-bytes shape))) ≡ true
   unfolding header-filler with-check header-bytes little-endian-bytes tag
   header-filler-zero =
-      let front : List ℕ = little-endian-bytes 4 0 ++ (tag ++ (little-endian-bytes 2 (shape .width) ++ (little-endian-bytes 2 (shape .height) ++ (shape .phase ∷ [])))) in
+      let front : List ℕ = little-endian-bytes 4 0 ++
+      (tag ++ (little-endian-bytes 2 (shape .width) ++ (little-endian-bytes 2 (shape .height) ++ (shape .phase ∷ [])))) in
       ap all-zero (part-middle front (zeros 495) _ 13 495 refl (length-zeros 495)) ∙ zeros-all-zero 495
 
 -- ---- block n, from 1
@@ -77,7 +78,14 @@ module _ (n : ℕ) (samples : List ℕ) where
   unfolding sample-bytes
   length-sample-bytes =
       let p : List ℕ = packed-payload samples in
-      omega (arith, length-append (little-endian-bytes 4 n) (p ++ zeros 4), length-append p (zeros 4), length-number, length-packed-payload samples, length-zeros 4)
+      omega (
+        arith,
+        length-append (little-endian-bytes 4 n) (p ++ zeros 4),
+        length-append p (zeros 4),
+        length-number,
+        length-packed-payload samples,
+        length-zeros 4,
+      )
 
   pub below-sample-bytes : Below 1024 samples → Below 256 (sample-bytes n samples)
   unfolding sample-bytes
@@ -90,7 +98,8 @@ module _ (n : ℕ) (samples : List ℕ) where
 
   number-in-block : part (with-check (sample-bytes n samples)) 0 4 ≡ little-endian-bytes 4 n
   unfolding sample-bytes
-  number-in-block = part-with-check (sample-bytes n samples) 0 4 length-sample-bytes (omega arith) ∙ part-middle [] (little-endian-bytes 4 n) _ 0 4 refl length-number
+  number-in-block = part-with-check (sample-bytes n samples) 0 4 length-sample-bytes (omega arith)
+      ∙ part-middle [] (little-endian-bytes 4 n) _ 0 4 refl length-number
 
   pub samples-number-holds : n < 256 ^ 4 → number-holds (with-check (sample-bytes n samples)) n ≡ true
   unfolding number-holds block-number
@@ -109,7 +118,8 @@ module _ (n : ℕ) (samples : List ℕ) where
       let p : List ℕ = packed-payload samples in
       let front : length (number ++ p) ≡ 504 = omega (arith, length-append number p, length-number, length-packed-payload samples) in
       part-with-check (sample-bytes n samples) 504 4 length-sample-bytes (omega arith)
-      ∙ ap (λ (t : List ℕ). part t 504 4) (sym (append-assoc number p (zeros 4)) ∙ ap (λ (t : List ℕ). (number ++ p) ++ t) (sym (append-nil (zeros 4))))
+      ∙ ap (λ (t : List ℕ). part t 504 4)
+      (sym (append-assoc number p (zeros 4)) ∙ ap (λ (t : List ℕ). (number ++ p) ++ t) (sym (append-nil (zeros 4))))
       ∙ part-middle (number ++ p) (zeros 4) [] 504 4 front (length-zeros 4)
 
   pub block-filler-zero : all-zero (block-filler (with-check (sample-bytes n samples))) ≡ true
@@ -119,4 +129,5 @@ module _ (n : ℕ) (samples : List ℕ) where
 pub length-written-block : (f : Frame) (n : ℕ) → length (written-block f n) ≡ 512
 unfolding written-block
 length-written-block f zero = length-with-check (header-bytes (shape-of f)) (length-header-bytes (shape-of f))
-length-written-block f (suc n) = length-with-check (sample-bytes (suc n) _) (length-sample-bytes (suc n) (block-samples (f .samples) (suc n)))
+length-written-block f (suc n) =
+    length-with-check (sample-bytes (suc n) _) (length-sample-bytes (suc n) (block-samples (f .samples) (suc n)))

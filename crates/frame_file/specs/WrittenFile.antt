@@ -68,8 +68,10 @@ module _ (f : Frame) (a : Admitted f) where
   below-written-file =
       below-joined 256 (block-count (sample-count f)) (written-block f) (omega arith)
       (elim [
-        | zero ↦ below-with-check (header-bytes (shape-of f)) (below-header-bytes (shape-of f) (omega (arith, phase-high (a .phase-is-allowed))))
-        | suc n ↦ below-with-check (sample-bytes (suc n) _) (below-sample-bytes (suc n) (block-samples (f .samples) (suc n)) (block-samples-below (suc n)))
+        | zero ↦ below-with-check (header-bytes (shape-of f))
+            (below-header-bytes (shape-of f) (omega (arith, phase-high (a .phase-is-allowed))))
+        | suc n ↦ below-with-check (sample-bytes (suc n) _)
+            (below-sample-bytes (suc n) (block-samples (f .samples) (suc n)) (block-samples-below (suc n)))
       ])
 
   header-of-written-file : header (block (written-file f) 0) ≡ shape-of f
@@ -78,7 +80,8 @@ module _ (f : Frame) (a : Admitted f) where
       ap header (block-of-written-file f 0 (some-blocks (sample-count f)))
       ∙ header-of-bytes (shape-of f) (omega (arith, side-high (a .width-allowed))) (omega (arith, side-high (a .height-allowed)))
 
-  samples-of-written-file : take (sample-count f) (joined (block-count (sample-count f) - 1) (λ i. unpacked-payload (payload (written-file f) (suc i)))) ≡ f .samples
+  samples-of-written-file : take (sample-count f)
+      (joined (block-count (sample-count f) - 1) (λ i. unpacked-payload (payload (written-file f) (suc i)))) ≡ f .samples
   samples-of-written-file =
       let m : ℕ = sample-count f in
       let c : ℕ = block-count m - 1 in
@@ -90,7 +93,8 @@ module _ (f : Frame) (a : Admitted f) where
   unfolding stored-frame stored-samples
   frame-of-written-file =
       let stored : ℕ → List ℕ = λ i. unpacked-payload (payload (written-file f) (suc i)) in
-      ap (λ (shape : Shape). frame shape (take (shape .height * shape .width) (joined (block-count (shape .height * shape .width) - 1) stored))) header-of-written-file
+      ap (λ (shape : Shape). frame shape
+      (take (shape .height * shape .width) (joined (block-count (shape .height * shape .width) - 1) stored))) header-of-written-file
       ∙ ap (frame (shape-of f)) samples-of-written-file
 
   header-block-allowed : header-allowed (with-check (header-bytes (shape-of f))) ≡ true
@@ -107,10 +111,14 @@ module _ (f : Frame) (a : Admitted f) where
   pub written-header-passes : (room : ℕ) → sample-count f ≤ room → HeaderPasses (written-file f) room
   unfolding written-block length-allowed file-length
   written-header-passes room r =
-      let first : block (written-file f) 0 ≡ with-check (header-bytes (shape-of f)) = block-of-written-file f 0 (some-blocks (sample-count f)) in
+      let first : block (written-file f) 0 ≡ with-check (header-bytes (shape-of f)) = block-of-written-file f 0
+      (some-blocks (sample-count f)) in
       let size : length (written-file f) ≡ 512 * block-count (sample-count f) = length-written-file f in
       record {
-        size = rw (leb-yes {m = 512} {n = length (written-file f)} (omega (arith, some-blocks (sample-count f))), eqb-yes {m = length (written-file f) % 512} {n = 0} (omega arith));
+        size = rw (
+          leb-yes {m = 512} {n = length (written-file f)} (omega (arith, some-blocks (sample-count f))),
+          eqb-yes {m = length (written-file f) % 512} {n = 0} (omega arith),
+        );
         check = rw first (header-check-holds (shape-of f) (omega (arith, phase-high (a .phase-is-allowed))));
         number = rw first (header-number-holds (shape-of f));
         allowed = rw first header-block-allowed;
@@ -123,14 +131,20 @@ module _ (f : Frame) (a : Admitted f) where
   unfolding filler-holds written-block
   written-filler-holds n h =
       let zero-samples : all-zero (drop (sample-count f - 400 * (suc n - 1)) (block-samples (f .samples) (suc n))) ≡ true =
-      subst (λ (m : ℕ). all-zero (drop (m - 400 * (suc n - 1)) (block-samples (f .samples) (suc n))) ≡ true) (a .samples-count) (block-samples-zero (f .samples) (suc n)) in
-      rw (block-of-written-file f (suc n) h, payload-of-written-file f n h, block-filler-zero (suc n) (block-samples (f .samples) (suc n))) zero-samples
+      subst (λ (m : ℕ). all-zero (drop (m - 400 * (suc n - 1)) (block-samples (f .samples) (suc n))) ≡ true) (a .samples-count)
+      (block-samples-zero (f .samples) (suc n)) in
+      rw (
+        block-of-written-file f (suc n) h,
+        payload-of-written-file f n h,
+        block-filler-zero (suc n) (block-samples (f .samples) (suc n)),
+      ) zero-samples
 
   pub written-block-passes : (n : ℕ) → 1 ≤ n → n < block-count (sample-count f) → Passes (written-file f) (sample-count f) n
   unfolding written-block
   written-block-passes zero l h = absurd (omega arith)
   written-block-passes (suc n) l h =
-      let this : block (written-file f) (suc n) ≡ with-check (sample-bytes (suc n) (block-samples (f .samples) (suc n))) = block-of-written-file f (suc n) h in
+      let this : block (written-file f) (suc n) ≡ with-check
+      (sample-bytes (suc n) (block-samples (f .samples) (suc n))) = block-of-written-file f (suc n) h in
       record {
         check = rw this (samples-check-holds (suc n) _ (block-samples-below (suc n)));
         number = rw this (samples-number-holds (suc n) _ (omega (arith, block-count-most (sample-count f) area-high)));

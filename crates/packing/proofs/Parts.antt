@@ -15,5 +15,6 @@ unfolding put-at
 copied l source last a h e =
     let all : length (midOf a (a + length source - a) l) ≤ length source = simp (length-take, length-drop) (omega arith) in
     ap₂ (λ (s t : List ℕ). take a l ++ (s ++ t))
-    (e ∙ ap₂ (λ (s t : List ℕ). s ++ t) (take-length source) (drop-of-length-le (midOf a (a + length source - a) l) all) ∙ append-nil source)
+    (e ∙ ap₂ (λ (s t : List ℕ). s ++ t) (take-length source) (drop-of-length-le (midOf a (a + length source - a) l) all)
+    ∙ append-nil source)
     (post-is a (a + length source) l (omega arith))

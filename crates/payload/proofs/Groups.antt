@@ -29,11 +29,13 @@ getD-group : (s : List ℕ) (g t : ℕ) → t < 4 → getD (part (filled-up s) (
 unfolding filled-up
 getD-group s g t h = getD-part (filled-up s) (4 * g) 4 t h ∙ getD-append-zeros s _ (4 * g + t)
 
-pub packed-group : (s : List ℕ) (g a b c d : ℕ) → a ≡ getD s (4 * g) 0 → b ≡ getD s (4 * g + 1) 0 → c ≡ getD s (4 * g + 2) 0 → d ≡ getD s (4 * g + 3) 0
+pub packed-group : (s : List ℕ) (g a b c d : ℕ) → a ≡ getD s (4 * g) 0 → b ≡ getD s (4 * g + 1) 0 → c ≡ getD s (4 * g + 2) 0
+    → d ≡ getD s (4 * g + 3) 0
     → packed (a ∷ b ∷ c ∷ d ∷ []) ≡ packed (part (filled-up s) (4 * g) 4)
 unfolding packed
 packed-group s g a b c d ea eb ec ed =
-    let first : getD (part (filled-up s) (4 * g) 4) 0 0 ≡ a = getD-group s g 0 (omega arith) ∙ ap (λ (k : ℕ). getD s k 0) (add-zero (4 * g)) ∙ sym ea in
+    let first : getD (part (filled-up s) (4 * g) 4) 0 0 ≡ a = getD-group s g 0 (omega arith)
+    ∙ ap (λ (k : ℕ). getD s k 0) (add-zero (4 * g)) ∙ sym ea in
     rw (first, getD-group s g 1 (omega arith), getD-group s g 2 (omega arith), getD-group s g 3 (omega arith), eb, ec, ed)
 
 -- the group that is stored next in a payload
@@ -49,7 +51,8 @@ pub stored-none : (s before : List ℕ) → length before ≡ 500 → Stored s b
 unfolding joined
 stored-none s before size = record { size = size; groups = refl }
 
-pub stored-next : (s before p last group : List ℕ) (g : ℕ) → g < 100 → Stored s before p g → group ≡ group-of s g → last ≡ put-at p (5 * g) group → Stored s before last (g + 1)
+pub stored-next : (s before p last group : List ℕ) (g : ℕ) → g < 100 → Stored s before p g → group ≡ group-of s g
+    → last ≡ put-at p (5 * g) group → Stored s before last (g + 1)
 stored-next s before p last group g h st e put =
     let five : length group ≡ 5 = ap length e ∙ length-packed (part (filled-up s) (4 * g) 4) in
     record {
@@ -72,11 +75,20 @@ stored-all s before p g h size st =
 -- ---- groups of bytes
 
 pub unpacked-group : (p : List ℕ) (g : ℕ)
-    → unpacked (getD p (5 * g) 0 ∷ getD p (5 * g + 1) 0 ∷ getD p (5 * g + 2) 0 ∷ getD p (5 * g + 3) 0 ∷ getD p (5 * g + 4) 0 ∷ []) ≡ unpacked (part p (5 * g) 5)
+    → unpacked
+    (getD p (5 * g) 0 ∷ getD p (5 * g + 1) 0 ∷ getD p (5 * g + 2) 0 ∷ getD p (5 * g + 3) 0 ∷ getD p (5 * g + 4) 0 ∷ []) ≡ unpacked
+    (part p (5 * g) 5)
 unfolding unpacked
 unpacked-group p g =
-    let first : getD (part p (5 * g) 5) 0 0 ≡ getD p (5 * g) 0 = getD-part p (5 * g) 5 0 (omega arith) ∙ ap (λ (k : ℕ). getD p k 0) (add-zero (5 * g)) in
-    rw (first, getD-part p (5 * g) 5 1 (omega arith), getD-part p (5 * g) 5 2 (omega arith), getD-part p (5 * g) 5 3 (omega arith), getD-part p (5 * g) 5 4 (omega arith))
+    let first : getD (part p (5 * g) 5) 0 0 ≡ getD p (5 * g) 0 = getD-part p (5 * g) 5 0 (omega arith)
+    ∙ ap (λ (k : ℕ). getD p k 0) (add-zero (5 * g)) in
+    rw (
+      first,
+      getD-part p (5 * g) 5 1 (omega arith),
+      getD-part p (5 * g) 5 2 (omega arith),
+      getD-part p (5 * g) 5 3 (omega arith),
+      getD-part p (5 * g) 5 4 (omega arith),
+    )
 
 -- sample k of a payload is entry k % 4 of its group k / 4
 pub sample-of-group : (p : List ℕ) (k : ℕ) → k < 400 → getD (unpacked-payload p) k 0 ≡ getD (unpacked (part p (5 * (k / 4)) 5)) (k % 4) 0
@@ -84,7 +96,8 @@ unfolding unpacked-payload
 sample-of-group p k h =
     let e : k ≡ 4 * (k / 4) + k % 4 = omega arith in
     ap (λ (i : ℕ). getD (unpacked-payload p) i 0) e
-    ∙ getD-joined (λ g. unpacked (part p (5 * g) 5)) 4 (λ g. length-unpacked (part p (5 * g) 5)) 100 (k / 4) (k % 4) (omega arith) (omega arith)
+    ∙ getD-joined (λ g. unpacked (part p (5 * g) 5)) 4 (λ g. length-unpacked (part p (5 * g) 5)) 100 (k / 4) (k % 4) (omega arith)
+    (omega arith)
 
 -- ---- samples stored from the front
 
@@ -105,7 +118,8 @@ front-set l u k v f e = record {
     below : (j : ℕ) → j < suc k → j ≤ k
     below j h = omega arith
 
-front-sets : (vs l u : List ℕ) (k : ℕ) → Front l u k → ((t : ℕ) → t < length vs → getD vs t 0 ≡ getD u (k + t) 0) → Front (sets l k vs) u (k + length vs)
+front-sets : (vs l u : List ℕ) (k : ℕ) → Front l u k → ((t : ℕ) → t < length vs → getD vs t 0 ≡ getD u (k + t) 0)
+    → Front (sets l k vs) u (k + length vs)
 front-sets [] l u k f e = rw add-zero f
 front-sets (v ∷ vs) l u k f e =
     let next : k + suc (length vs) ≡ suc k + length vs = omega arith in
@@ -114,7 +128,8 @@ front-sets (v ∷ vs) l u k f e =
 
 -- four stores one after the other
 pub four-stores : (l l1 l2 l3 l4 group : List ℕ) (k : ℕ) → length group ≡ 4
-    → l1 ≡ set l k (getD group 0 0) → l2 ≡ set l1 (k + 1) (getD group 1 0) → l3 ≡ set l2 (k + 2) (getD group 2 0) → l4 ≡ set l3 (k + 3) (getD group 3 0)
+    → l1 ≡ set l k (getD group 0 0) → l2 ≡ set l1 (k + 1) (getD group 1 0) → l3 ≡ set l2 (k + 2) (getD group 2 0)
+    → l4 ≡ set l3 (k + 3) (getD group 3 0)
     → l4 ≡ sets l k group
 four-stores l l1 l2 l3 l4 [] k size e1 e2 e3 e4 = absurd (omega arith)
 four-stores l l1 l2 l3 l4 (a ∷ []) k size e1 e2 e3 e4 = absurd (omega arith)
@@ -127,7 +142,8 @@ four-stores l l1 l2 l3 l4 (a ∷ b ∷ c ∷ d ∷ []) k size e1 e2 e3 e4 =
     rw (e4, e3, e2, e1, s1, s2, s3)
 four-stores l l1 l2 l3 l4 (a ∷ b ∷ c ∷ d ∷ x ∷ m) k size e1 e2 e3 e4 = absurd (omega arith)
 
-same-group : (p : List ℕ) (k t : ℕ) → k < 400 → k % 4 ≡ 0 → t < 4 → getD (unpacked (part p (5 * (k / 4)) 5)) t 0 ≡ getD (unpacked-payload p) (k + t) 0
+same-group : (p : List ℕ) (k t : ℕ) → k < 400 → k % 4 ≡ 0 → t < 4
+    → getD (unpacked (part p (5 * (k / 4)) 5)) t 0 ≡ getD (unpacked-payload p) (k + t) 0
 same-group p k t h m q =
     let group : (k + t) / 4 ≡ k / 4 = omega arith in
     let place : (k + t) % 4 ≡ t = omega arith in
@@ -136,7 +152,8 @@ same-group p k t h m q =
 front-group : (l p : List ℕ) (k : ℕ) → k < 400 → k % 4 ≡ 0 → Front l (unpacked-payload p) k
     → Front (sets l k (unpacked (part p (5 * (k / 4)) 5))) (unpacked-payload p) (k + 4)
 front-group l p k h m f =
-    subst (λ (n : ℕ). Front (sets l k (unpacked (part p (5 * (k / 4)) 5))) (unpacked-payload p) (k + n)) (length-unpacked (part p (5 * (k / 4)) 5))
+    subst (λ (n : ℕ). Front (sets l k (unpacked (part p (5 * (k / 4)) 5))) (unpacked-payload p) (k + n))
+    (length-unpacked (part p (5 * (k / 4)) 5))
     (front-sets (unpacked (part p (5 * (k / 4)) 5)) l (unpacked-payload p) k f
     (λ t i. let q : t < 4 = omega (arith, length-unpacked (part p (5 * (k / 4)) 5)) in same-group p k t h m q))
 
@@ -159,7 +176,8 @@ filled-next p before l last group k h most f e stores = record {
   front = rw (stores, e) (front-group l p k (omega (arith, f .size)) (f .whole) (f .front));
 }
 
-pub filled-all : (p before l : List ℕ) (k : ℕ) → length l ≤ k → length before ≤ 400 → Filled p before l k → l ≡ take (length before) (unpacked-payload p)
+pub filled-all : (p before l : List ℕ) (k : ℕ) → length l ≤ k → length before ≤ 400 → Filled p before l k
+    → l ≡ take (length before) (unpacked-payload p)
 filled-all p before l k h most f =
     let u : List ℕ = unpacked-payload p in
     ext-getD 0 l (take (length before) u) (omega (arith, f .size, length-take (length before) u, length-unpacked-payload p))
@@ -171,7 +189,8 @@ module _ (p : List ℕ) (k : ℕ) (group : List ℕ) (h : k < 400) (e : group �
   tested : all-zero (drop k (unpacked-payload p)) ≡ (eqb (getD group (k % 4) 0) 0 && all-zero (drop (k + 1) (unpacked-payload p)))
   tested =
       all-zero-drop (unpacked-payload p) k (omega (arith, length-unpacked-payload p))
-      ∙ ap (λ (v : ℕ). eqb v 0 && all-zero (drop (k + 1) (unpacked-payload p))) (sample-of-group p k h ∙ ap (λ (l : List ℕ). getD l (k % 4) 0) (sym e))
+      ∙ ap (λ (v : ℕ). eqb v 0 && all-zero (drop (k + 1) (unpacked-payload p)))
+      (sample-of-group p k h ∙ ap (λ (l : List ℕ). getD l (k % 4) 0) (sym e))
 
   pub zero-on : getD group (k % 4) 0 ≡ 0 → all-zero (drop k (unpacked-payload p)) ≡ all-zero (drop (k + 1) (unpacked-payload p))
   zero-on z = tested ∙ rw (eqb-yes z)

@@ -34,8 +34,13 @@ then-reading Done rest = rest
 then-reading (Refused why) rest = refused why
 
 five-tests : (size check number allowed filler : Bool) (rest : Reading)
-    → File.tested size FileLength (File.tested check (Check 0) (File.tested number (BlockNumber 0) (File.tested allowed Header (File.tested filler (Filler 0) rest))))
-    ≡ then-reading (tested size FileLength (and-then (tested check (Check 0) (tested number (BlockNumber 0) Done)) (tested allowed Header (tested filler (Filler 0) Done)))) rest
+    → File.tested size FileLength
+    (File.tested check (Check 0)
+    (File.tested number (BlockNumber 0) (File.tested allowed Header (File.tested filler (Filler 0) rest))))
+    ≡ then-reading
+    (tested size FileLength
+    (and-then (tested check (Check 0) (tested number (BlockNumber 0) Done))
+    (tested allowed Header (tested filler (Filler 0) Done)))) rest
 five-tests true true true true true rest = refl
 five-tests true true true true false rest = refl
 five-tests true true true false filler rest = refl
@@ -45,17 +50,20 @@ five-tests false check number allowed filler rest = refl
 
 three-tests : (check number filler : Bool) (n : ℕ) (answer : Answer) (rest after : Reading) → after ≡ then-reading answer rest
     → File.tested check (Check n) (File.tested number (BlockNumber n) (File.tested filler (Filler n) after))
-    ≡ then-reading (and-then (and-then (tested check (Check n) (tested number (BlockNumber n) Done)) (tested filler (Filler n) Done)) answer) rest
+    ≡ then-reading
+    (and-then (and-then (tested check (Check n) (tested number (BlockNumber n) Done)) (tested filler (Filler n) Done)) answer) rest
 three-tests true true true n answer rest after e = e
 three-tests true true false n answer rest after e = refl
 three-tests true false filler n answer rest after e = refl
 three-tests false number filler n answer rest after e = refl
 
-later-blocks-is : (file : List ℕ) (f : Frame) (n left : ℕ) → later-blocks file f n left ≡ then-reading (later-answers file (sample-count f) n left) (accepted f)
+later-blocks-is : (file : List ℕ) (f : Frame) (n left : ℕ)
+    → later-blocks file f n left ≡ then-reading (later-answers file (sample-count f) n left) (accepted f)
 unfolding later-blocks later-answers later-answer block-answer
 later-blocks-is file f n zero = refl
 later-blocks-is file f n (suc left) =
-    three-tests (check-holds (block file n)) (number-holds (block file n) n) (filler-holds file (sample-count f) n) n _ (accepted f) _ (later-blocks-is file f (suc n) left)
+    three-tests (check-holds (block file n)) (number-holds (block file n) n) (filler-holds file (sample-count f) n) n _
+    (accepted f) _ (later-blocks-is file f (suc n) left)
 
 -- what comes after block 0
 after-first : List ℕ → ℕ → Reading
@@ -68,8 +76,10 @@ read-is : (file : List ℕ) (room : ℕ) → reading file room ≡ then-reading 
 unfolding reading first-answer header-answer block-answer after-first
 read-is file room =
     let m : ℕ = sample-count (stored-frame file) in
-    five-tests (length-allowed (length file)) (check-holds (block file 0)) (number-holds (block file 0) 0) (header-allowed (block file 0)) (all-zero (header-filler (block file 0))) _
-    ∙ ap (λ (o : Reading). then-reading (first-answer file) (File.tested (eqb (length file) (file-length (stored-frame file))) FileLength (File.tested (leb m room) BufferLength o)))
+    five-tests (length-allowed (length file)) (check-holds (block file 0)) (number-holds (block file 0) 0)
+    (header-allowed (block file 0)) (all-zero (header-filler (block file 0))) _
+    ∙ ap (λ (o : Reading). then-reading (first-answer file)
+    (File.tested (eqb (length file) (file-length (stored-frame file))) FileLength (File.tested (leb m room) BufferLength o)))
     (later-blocks-is file (stored-frame file) 1 (block-count m - 1))
 
 and-then-done : (a b : Answer) → and-then a b ≡ Done → (a ≡ Done) × (b ≡ Done)
@@ -91,7 +101,8 @@ first-passes file e =
     let a = allowed-header (block file 0) (allowed .0) in
     record { long = leb-le 512 (length file) (long .0); width = side-most _ (a .width-allowed); height = side-most _ (a .height-allowed) }
 
-pub sides-small : (file : List ℕ) → first-answer file ≡ Done → (shape : Shape) → shape ≡ header (block file 0) → (shape .width ≤ 4096) × (shape .height ≤ 4096)
+pub sides-small : (file : List ℕ) → first-answer file ≡ Done → (shape : Shape) → shape ≡ header (block file 0)
+    → (shape .width ≤ 4096) × (shape .height ≤ 4096)
 sides-small file e shape es = let first = first-passes file e in rw es (first .width, first .height)
 
 pub file-long : (file : List ℕ) → first-answer file ≡ Done → 512 ≤ length file
@@ -154,11 +165,13 @@ module _ (file before : List ℕ) where
         pub front-fits : 512 * block-count (length (take (m - 0) before)) ≤ length file
         front-fits = rw (front-size, ← k .blocks-are, size) (le-refl (512 * blocks))
 
-        pub all-read : later-answers file m 1 (blocks - 1) ≡ Done → (last : List ℕ) → last ≡ stored-samples file (length (take (m - 0) before))
+        pub all-read : later-answers file m 1 (blocks - 1) ≡ Done → (last : List ℕ)
+            → last ≡ stored-samples file (length (take (m - 0) before))
             → Returns (Read.Frame shape) (last ++ drop (m - 0) before)
         unfolding read-answer samples-after-read stored-frame
         all-read e last el = (
           ap (λ (s : Shape). Read.Frame s) (k .shape-is) ∙ sym (ap File.answer-of (reading-here e)),
-          ap₂ (λ (s : List ℕ) (n : ℕ). s ++ drop n before) (el ∙ ap (stored-samples file) (front-size ∙ sym count-is)) (sub-zero m ∙ sym count-is)
+          ap₂ (λ (s : List ℕ) (n : ℕ). s ++ drop n before) (el ∙ ap (stored-samples file) (front-size ∙ sym count-is))
+              (sub-zero m ∙ sym count-is)
               ∙ sym (ap (λ (o : Reading). File.samples-of o before) (reading-here e)),
         )

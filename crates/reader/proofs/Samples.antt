@@ -29,7 +29,9 @@ module _ (file : List ℕ) (m : ℕ) where
       let all : List ℕ = joined (block-count m - 1) block-samples in
       sym (take-take k 400 (drop (400 * i) (take m all)) small)
       ∙ ap (take k) (part-take all m (400 * i) 400)
-      ∙ ap (λ (t : List ℕ). take k (take (m - 400 * i) t)) (part-joined block-samples 400 (λ j. length-unpacked-payload (payload file (suc j))) (block-count m - 1) i (block-after-header m i h))
+      ∙ ap (λ (t : List ℕ). take k (take (m - 400 * i) t))
+      (part-joined block-samples 400 (λ j. length-unpacked-payload (payload file (suc j))) (block-count m - 1) i
+      (block-after-header m i h))
       ∙ take-take k (m - 400 * i) (unpacked-payload (payload file (suc i))) (omega arith)
 
 -- the samples before position `start`, the first of block n, are stored
@@ -44,7 +46,8 @@ unpacked-none file before = record { low = omega arith; place = omega arith; siz
 
 -- ---- one block more
 
-module _ (file before l : List ℕ) (n start end : ℕ) (h : start < length l) (e : end ≡ min (start + 400) (length l)) (u : Unpacked file before l n start) where
+module _ (file before l : List ℕ) (n start end : ℕ) (h : start < length l) (e : end ≡ min (start + 400) (length l))
+    (u : Unpacked file before l n start) where
   x : List ℕ
   x = stored-samples file (length before)
 
@@ -72,7 +75,8 @@ module _ (file before l : List ℕ) (n start end : ℕ) (h : start < length l) (
   next-block =
       let number : suc (n - 1) ≡ n = omega (arith, u .low) in
       ap (λ (k : ℕ). take (end - start) (drop k (stored-samples file (length before)))) block-start
-      ∙ samples-of-block file (length before) (n - 1) (end - start) (omega (arith, block-start, u .size)) (omega (arith, e)) (omega (arith, e, block-start, u .size))
+      ∙ samples-of-block file (length before) (n - 1) (end - start) (omega (arith, block-start, u .size)) (omega (arith, e))
+      (omega (arith, e, block-start, u .size))
       ∙ ap (λ (k : ℕ). take (end - start) (unpacked-payload (payload file k))) number
 
   more-front : (last : List ℕ) → last ≡ take (end - start) (unpacked-payload (payload file n)) → take start x ++ last ≡ take end x
@@ -85,9 +89,11 @@ module _ (file before l : List ℕ) (n start end : ℕ) (h : start < length l) (
   unfolding x
   unpacked-next p last ep el =
       let count : length (midOf start (end - start) l) ≡ end - start = mid-len start end l (omega (arith, e)) in
-      let stored : last ≡ take (end - start) (unpacked-payload (payload file n)) = el ∙ ap₂ (λ (k : ℕ) (q : List ℕ). take k (unpacked-payload q)) count ep in
+      let stored : last ≡ take (end - start) (unpacked-payload (payload file n)) = el
+      ∙ ap₂ (λ (k : ℕ) (q : List ℕ). take k (unpacked-payload q)) count ep in
       let many : length last ≡ length (midOf start (end - start) l) =
-      ap length stored ∙ length-take (end - start) (unpacked-payload (payload file n)) ∙ omega (arith, e, count, length-unpacked-payload (payload file n)) in
+      ap length stored ∙ length-take (end - start) (unpacked-payload (payload file n))
+      ∙ omega (arith, e, count, length-unpacked-payload (payload file n)) in
       record {
         low = omega arith;
         place = omega (arith, e, block-start, u .size, u .low);
@@ -98,10 +104,12 @@ module _ (file before l : List ℕ) (n start end : ℕ) (h : start < length l) (
             ∙ ap (λ (s : List ℕ). s ++ drop end before) (more-front last stored);
       }
 
-pub unpacked-all : (file before l : List ℕ) (n start : ℕ) → length l ≤ start → Unpacked file before l n start → l ≡ stored-samples file (length before)
+pub unpacked-all : (file before l : List ℕ) (n start : ℕ) → length l ≤ start → Unpacked file before l n start
+    → l ≡ stored-samples file (length before)
 unpacked-all file before l n start h u =
     let x : List ℕ = stored-samples file (length before) in
     let none : length before ≤ start = omega (arith, u .size) in
     u .front
-    ∙ ap₂ (λ (s t : List ℕ). s ++ t) (take-all start x (omega (arith, length-stored-samples file (length before)))) (drop-of-length-le before none)
+    ∙ ap₂ (λ (s t : List ℕ). s ++ t) (take-all start x (omega (arith, length-stored-samples file (length before))))
+    (drop-of-length-le before none)
     ∙ append-nil x

@@ -69,7 +69,8 @@ module _ (file : List ℕ) where
       unfolding first-answer length-allowed
       block-refused why e = rw (leb-yes long, eqb-yes even, e)
 
-      pub header-next : (answer : Answer) → block-answer (block file 0) 0 ≡ Done → answer ≡ header-answer (block file 0) → answer ≡ first-answer file
+      pub header-next : (answer : Answer) → block-answer (block file 0) 0 ≡ Done → answer ≡ header-answer (block file 0)
+          → answer ≡ first-answer file
       unfolding first-answer length-allowed
       header-next answer d e = rw (leb-yes long, eqb-yes even, d) e
 
@@ -83,9 +84,11 @@ filler-slice : (file : List ℕ) (n : ℕ) → take (512 * n + 508 - (512 * n + 
 unfolding block block-filler
 filler-slice file n =
     let e : 512 * n + 508 ≡ 512 * n + 504 + 4 = omega arith in
-    ap (λ (k : ℕ). take (k - (512 * n + 504)) (drop (512 * n + 504) file)) e ∙ slice-part file (512 * n + 504) 4 ∙ sym (part-part file (512 * n) 512 504 4 (omega arith))
+    ap (λ (k : ℕ). take (k - (512 * n + 504)) (drop (512 * n + 504) file)) e ∙ slice-part file (512 * n + 504) 4
+    ∙ sym (part-part file (512 * n) 512 504 4 (omega arith))
 
-module _ (file : List ℕ) (m n : ℕ) {answer : Answer} (ea : answer ≡ block-answer (take (512 * n + 512 - 512 * n) (drop (512 * n) file)) n) where
+module _ (file : List ℕ) (m n : ℕ) {answer : Answer}
+    (ea : answer ≡ block-answer (take (512 * n + 512 - 512 * n) (drop (512 * n) file)) n) where
   answer-is : block-answer (block file n) n ≡ answer
   answer-is = sym (ea ∙ ap (λ (b : List ℕ). block-answer b n) (block-slice file n))
 
@@ -101,7 +104,8 @@ module _ (file : List ℕ) (m n : ℕ) {answer : Answer} (ea : answer ≡ block-
     unfolding later-answer filler-holds
     bytes-refused h = rw (answer-is ∙ done, bytes-are ∙ not-true z h)
 
-    module _ (hz : not z ≡ false) {p : List ℕ} (ep : p ≡ payload file n) {y : Bool} (ey : y ≡ all-zero (drop (m - 400 * (n - 1)) (unpacked-payload p))) where
+    module _ (hz : not z ≡ false) {p : List ℕ} (ep : p ≡ payload file n) {y : Bool}
+        (ey : y ≡ all-zero (drop (m - 400 * (n - 1)) (unpacked-payload p))) where
       samples-are : all-zero (drop (m - 400 * (n - 1)) (unpacked-payload (payload file n))) ≡ y
       samples-are = sym (ey ∙ ap (λ (l : List ℕ). all-zero (drop (m - 400 * (n - 1)) (unpacked-payload l))) ep)
 

@@ -17,7 +17,8 @@ header-answer b = tested (header-allowed b) Header (tested (all-zero (header-fil
 
 -- length, then block 0 for 7, 9, 8, 10
 unfoldable pub first-answer : List ℕ → Answer
-first-answer file = tested (length-allowed (length file)) FileLength (and-then (block-answer (block file 0) 0) (header-answer (block file 0)))
+first-answer file =
+    tested (length-allowed (length file)) FileLength (and-then (block-answer (block file 0) 0) (header-answer (block file 0)))
 
 -- block n, from 1, for 7, 9, 10, in the file of a frame of so many samples
 unfoldable pub later-answer : List ℕ → ℕ → ℕ → Answer

@@ -28,7 +28,8 @@ module _ (shape : Shape) (mosaic file : List ℕ) where
   answer = write-answer (frame shape mosaic) (length file)
 
   -- numbers 1 to 3, then 4, then 5
-  answer-is : answer ≡ and-then (shape-answer shape (length mosaic)) (tested (eqb (length file) (file-length (frame shape mosaic))) BufferLength (samples-answer 0 mosaic))
+  answer-is : answer ≡ and-then (shape-answer shape (length mosaic))
+      (tested (eqb (length file) (file-length (frame shape mosaic))) BufferLength (samples-answer 0 mosaic))
   unfolding write-answer
   answer-is = in-order shape mosaic (eqb (length file) (file-length (frame shape mosaic)))
 
@@ -50,7 +51,9 @@ module _ (shape : Shape) (mosaic file : List ℕ) where
     file-length-is = ap (λ (n : ℕ). 512 * block-count n) (sym (shape-passes shape (length mosaic) done .samples))
 
     pub size-refused : ¬ (length file ≡ 512 * block-count (length mosaic)) → Wrote (Refused BufferLength) file
-    size-refused h = refused-so BufferLength (answer-is ∙ rw (done, ne-eqb (length file) (file-length (frame shape mosaic)) (λ q. h (q ∙ file-length-is))))
+    size-refused h =
+        refused-so BufferLength
+        (answer-is ∙ rw (done, ne-eqb (length file) (file-length (frame shape mosaic)) (λ q. h (q ∙ file-length-is))))
 
     module _ (size : length file ≡ 512 * block-count (length mosaic)) where
       right-size : eqb (length file) (file-length (frame shape mosaic)) ≡ true

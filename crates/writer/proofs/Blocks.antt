@@ -21,10 +21,12 @@ check-stored b c size e =
     let four : length c ≡ 4 = ap length e ∙ length-little-endian-bytes 4 (check b) in
     let none : length b ≤ 508 + length c = omega arith in
     ap (λ (t : List ℕ). take 508 b ++ (c ++ t)) (drop-of-length-le b none)
-    ∙ ap (λ (t : List ℕ). take 508 b ++ t) (append-nil c ∙ e ∙ ap (little-endian-bytes 4) (check-cong b (part b 0 508) (λ k h. sym (getD-front b 508 k h))))
+    ∙ ap (λ (t : List ℕ). take 508 b ++ t)
+    (append-nil c ∙ e ∙ ap (little-endian-bytes 4) (check-cong b (part b 0 508) (λ k h. sym (getD-front b 508 k h))))
 
 -- the first 508 bytes of 512 zero bytes that are filled up to k
-filled-block : (front : List ℕ) (k r : ℕ) → length front ≡ k → k + (r + 4) ≡ 512 → part (front ++ drop k (zeros 512)) 0 508 ≡ front ++ zeros r
+filled-block : (front : List ℕ) (k r : ℕ) → length front ≡ k → k + (r + 4) ≡ 512
+    → part (front ++ drop k (zeros 512)) 0 508 ≡ front ++ zeros r
 unfolding part
 filled-block front k r e h =
     let left : 512 - k ≡ r + 4 = omega arith in
@@ -40,7 +42,8 @@ header-parts : (shape : Shape) → header-bytes shape ≡ part (header-bytes sha
 unfolding part header-bytes little-endian-bytes tag
 header-parts shape = refl
 
-header-filled : (shape : Shape) (front : List ℕ) → front ≡ part (header-bytes shape) 0 13 → part (put-at (zeros 512) 0 front) 0 508 ≡ header-bytes shape
+header-filled : (shape : Shape) (front : List ℕ) → front ≡ part (header-bytes shape) 0 13
+    → part (put-at (zeros 512) 0 front) 0 508 ≡ header-bytes shape
 header-filled shape front e =
     let size : length front ≡ 13 = ap length e ∙ length-part (header-bytes shape) 0 13 (omega (arith, length-header-bytes shape)) in
     ap (λ (t : List ℕ). part t 0 508) (put-first (zeros 512) front ∙ ap (λ (n : ℕ). front ++ drop n (zeros 512)) size)
@@ -73,12 +76,14 @@ samples-filled n samples number bytes en eb =
     ∙ append-assoc number bytes (zeros 4)
     ∙ ap₂ (λ (s t : List ℕ). s ++ (t ++ zeros 4)) en eb
 
-pub samples-composed : (n : ℕ) (samples number bytes b b1 b2 : List ℕ) → b ≡ zeros 512 → number ≡ little-endian-bytes 4 n → bytes ≡ packed-payload samples
+pub samples-composed : (n : ℕ) (samples number bytes b b1 b2 : List ℕ) → b ≡ zeros 512 → number ≡ little-endian-bytes 4 n
+    → bytes ≡ packed-payload samples
     → b1 ≡ put-at b 0 number → b2 ≡ with-check (part (putMid 4 500 b1 bytes) 0 508) → b2 ≡ with-check (sample-bytes n samples)
 samples-composed n samples number bytes b b1 b2 e en eb e1 e2 =
     e2
     ∙ ap with-check
-    (ap (λ (t : List ℕ). part (putMid 4 500 t bytes) 0 508) (e1 ∙ ap (λ (t : List ℕ). put-at t 0 number) e) ∙ samples-filled n samples number bytes en eb)
+    (ap (λ (t : List ℕ). part (putMid 4 500 t bytes) 0 508) (e1 ∙ ap (λ (t : List ℕ). put-at t 0 number) e)
+    ∙ samples-filled n samples number bytes en eb)
 
 -- a part that the list ends in
 pub part-to-end : (l : List ℕ) (a n : ℕ) → length l - a < n → take (length l - a) (drop a l) ≡ part l a n

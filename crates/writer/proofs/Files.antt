@@ -38,17 +38,21 @@ later-block shape mosaic samples zero h e = absurd (omega arith)
 later-block shape mosaic samples (suc n) h e = ap (λ (s : List ℕ). with-check (sample-bytes (suc n) (filled-up s))) e
 
 pub written-next : (mosaic before file last samples : List ℕ) (n : ℕ) → 512 * n + 512 ≤ length file → Written mosaic before file n
-    → samples ≡ part mosaic (400 * (n - 1)) 400 → last ≡ put-at file (512 * n) (with-check (sample-bytes n (filled-up samples))) → Written mosaic before last (n + 1)
+    → samples ≡ part mosaic (400 * (n - 1)) 400 → last ≡ put-at file (512 * n) (with-check (sample-bytes n (filled-up samples)))
+    → Written mosaic before last (n + 1)
 written-next mosaic before file last samples n fits w e put = record {
   low = omega arith;
-  size = ap length put ∙ length-put-at file (512 * n) _ (rw (length-with-check (sample-bytes n (filled-up samples)) (length-sample-bytes n (filled-up samples))) fits) ∙ w .size;
+  size = ap length put
+      ∙ length-put-at file (512 * n) _
+      (rw (length-with-check (sample-bytes n (filled-up samples)) (length-sample-bytes n (filled-up samples))) fits) ∙ w .size;
   blocks = λ shape first.
       put
       ∙ ap₂ (λ (l m : List ℕ). put-at l (512 * n) m) (w .blocks shape first) (later-block shape mosaic samples n (w .low) e)
       ∙ put-at-joined (written-block (frame shape mosaic)) 512 (length-written-block (frame shape mosaic)) before n;
 }
 
-pub written-all : (shape : Shape) (mosaic before file : List ℕ) (n : ℕ) → n ≡ block-count (length mosaic) → length mosaic ≡ shape .height * shape .width
+pub written-all : (shape : Shape) (mosaic before file : List ℕ) (n : ℕ) → n ≡ block-count (length mosaic)
+    → length mosaic ≡ shape .height * shape .width
     → length before ≡ 512 * block-count (length mosaic) → Written mosaic before file n
     → before ≡ joined 1 (written-block (frame shape mosaic)) ++ drop 512 before → file ≡ written-file (frame shape mosaic)
 unfolding written-file

@@ -14,13 +14,19 @@ side-in-range-requires-2 : tie.Need-side-in-range-requires-2
 side-in-range-requires-2 c κs = search needs
 
 returns-2 : tie.Need-returns-2
-returns-2 c = height-out _ (c .before .before .before .side-in-range .ensures) (c .before .before .if1 .left) (c .before .side-in-range2 .ensures) (c .if2 .taken)
+returns-2 c =
+    height-out _ (c .before .before .before .side-in-range .ensures) (c .before .before .if1 .left)
+    (c .before .side-in-range2 .ensures) (c .if2 .taken)
 
 returns-3 : tie.Need-returns-3
-returns-3 c = phase-out _ (c .before .before .before .before .before .side-in-range .ensures) (c .before .before .before .before .if1 .left) (c .before .before .before .side-in-range2 .ensures) (c .before .before .if2 .left) (c .if3 .taken)
+returns-3 c =
+    phase-out _ (c .before .before .before .before .before .side-in-range .ensures) (c .before .before .before .before .if1 .left)
+    (c .before .before .before .side-in-range2 .ensures) (c .before .before .if2 .left) (c .if3 .taken)
 
 returns-4 : tie.Need-returns-4
-returns-4 c = shape-in _ (c .before .before .before .before .before .side-in-range .ensures) (c .before .before .before .before .if1 .left) (c .before .before .before .side-in-range2 .ensures) (c .before .before .if2 .left) (c .if3 .left)
+returns-4 c =
+    shape-in _ (c .before .before .before .before .before .side-in-range .ensures) (c .before .before .before .before .if1 .left)
+    (c .before .before .before .side-in-range2 .ensures) (c .before .before .if2 .left) (c .if3 .left)
 
 pub shape-in-range-spec : {M : Type 1} → statement M
 shape-in-range-spec =

@@ -24,8 +24,11 @@ add-result c = search needs
 
 returns : tie.Need-returns
 returns c =
-    let start = c .before .before .before in
-    (ap₂ (λ (x y : ℕ). x + 256 * y) (c .before .byte .ensures .0) (c .byte2 .ensures .0) ∙ sym (number-of-two (start .args .bytes .now) (start .args .at) (start .pre)), omega arith)
+    let start = c .before .before .before in (
+      ap₂ (λ (x y : ℕ). x + 256 * y) (c .before .byte .ensures .0) (c .byte2 .ensures .0)
+          ∙ sym (number-of-two (start .args .bytes .now) (start .args .at) (start .pre)),
+      omega arith,
+    )
 
 pub number2-spec : {M : Type 1} → statement M
 number2-spec =

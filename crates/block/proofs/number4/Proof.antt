@@ -24,7 +24,8 @@ add-result c = search needs
 returns : tie.Need-returns
 returns c =
     let start = c .before .before .before in
-    ap₂ (λ (x y : ℕ). x + 65536 * y) (c .before .number2 .ensures .0) (c .number22 .ensures .0) ∙ sym (number-of-four (start .args .bytes .now) (start .args .at) (start .pre))
+    ap₂ (λ (x y : ℕ). x + 65536 * y) (c .before .number2 .ensures .0) (c .number22 .ensures .0)
+    ∙ sym (number-of-four (start .args .bytes .now) (start .args .at) (start .pre))
 
 pub number4-spec : {M : Type 1} → statement M
 number4-spec =

@@ -28,7 +28,10 @@ array-read-if1 c = search needs
 
 returns : tie.Need-returns Inv-loop μ-loop
 unfolding tag
-returns c = sym (c .before .before .before .loop .inv .1 ∙ tag-stop (c .before .before .before .before .args .block .now) (c .before .before .before .loop .k) (c .before .before .before .before .pre) (omega arith) (c .if1 .taken))
+returns c =
+    sym (c .before .before .before .loop .inv .1
+    ∙ tag-stop (c .before .before .before .before .args .block .now) (c .before .before .before .loop .k)
+    (c .before .before .before .before .pre) (omega arith) (c .if1 .taken))
 
 add-k : tie.Need-add-k Inv-loop μ-loop
 add-k c = search needs
@@ -38,7 +41,12 @@ loop-less c = search needs
 
 loop-again : tie.Need-loop-again Inv-loop μ-loop
 unfolding tag
-loop-again c = (omega arith, c .before .before .before .loop .inv .1 ∙ tag-on (c .before .before .before .before .args .block .now) (c .before .before .before .loop .k) (c .before .before .before .before .pre) (omega arith) (c .if1 .left))
+loop-again c = (
+  omega arith,
+  c .before .before .before .loop .inv .1
+      ∙ tag-on (c .before .before .before .before .args .block .now) (c .before .before .before .loop .k)
+      (c .before .before .before .before .pre) (omega arith) (c .if1 .left),
+)
 
 returns-2 : tie.Need-returns-2 Inv-loop μ-loop
 returns-2 c = sym (c .before .loop .inv .1 ∙ tag-all (c .before .before .args .block .now) (c .before .loop .k) (omega arith))

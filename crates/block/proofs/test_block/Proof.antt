@@ -17,10 +17,14 @@ number4-requires-2 : tie.Need-number4-requires-2
 number4-requires-2 c κs = search needs
 
 returns-2 : tie.Need-returns-2
-returns-2 c = number-refused _ _ _ _ (c .before .before .before .before .number4 .ensures) (c .before .before .before .check-of .ensures) (c .before .before .if1 .left) _ (c .before .number42 .ensures) (c .if2 .taken)
+returns-2 c =
+    number-refused _ _ _ _ (c .before .before .before .before .number4 .ensures) (c .before .before .before .check-of .ensures)
+    (c .before .before .if1 .left) _ (c .before .number42 .ensures) (c .if2 .taken)
 
 returns-3 : tie.Need-returns-3
-returns-3 c = block-passes _ _ _ _ (c .before .before .before .before .number4 .ensures) (c .before .before .before .check-of .ensures) (c .before .before .if1 .left) _ (c .before .number42 .ensures) (c .if2 .left)
+returns-3 c =
+    block-passes _ _ _ _ (c .before .before .before .before .number4 .ensures) (c .before .before .before .check-of .ensures)
+    (c .before .before .if1 .left) _ (c .before .number42 .ensures) (c .if2 .left)
 
 pub test-block-spec : {M : Type 1} → statement M
 test-block-spec =

@@ -25,7 +25,8 @@ same-length c = search needs
 returns : tie.Need-returns
 returns c =
     let start = c .before .before .before .before .before .before in
-    copied (start .args .to .now) (start .args .source .now) (c .before .before .copy .last .1 .0) (start .args .at) (start .pre) (c .before .before .copy .ensures .1)
+    copied (start .args .to .now) (start .args .source .now) (c .before .before .copy .last .1 .0) (start .args .at) (start .pre)
+    (c .before .before .copy .ensures .1)
 
 pub store-bytes-spec : {M : Type 1} → statement M
 store-bytes-spec =

@@ -31,13 +31,16 @@ sample-or-zero-requires-4 c κs = search needs
 
 pack-requires : tie.Need-pack-requires
 pack-requires c κs =
-    four-below _ _ _ _ (c .before .before .before .sample-or-zero .ensures .1) (c .before .before .sample-or-zero2 .ensures .1) (c .before .sample-or-zero3 .ensures .1) (c .sample-or-zero4 .ensures .1)
+    four-below _ _ _ _ (c .before .before .before .sample-or-zero .ensures .1) (c .before .before .sample-or-zero2 .ensures .1)
+    (c .before .sample-or-zero3 .ensures .1) (c .sample-or-zero4 .ensures .1)
 
 returns : tie.Need-returns
 returns c =
     c .pack .ensures
-    ∙ packed-group (c .before .before .before .before .before .before .args .samples .now) (c .before .before .before .before .before .before .args .g) _ _ _ _
-    (c .before .before .before .before .sample-or-zero .ensures .0) (c .before .before .before .sample-or-zero2 .ensures .0) (c .before .before .sample-or-zero3 .ensures .0) (c .before .sample-or-zero4 .ensures .0)
+    ∙ packed-group (c .before .before .before .before .before .before .args .samples .now)
+    (c .before .before .before .before .before .before .args .g) _ _ _ _
+    (c .before .before .before .before .sample-or-zero .ensures .0) (c .before .before .before .sample-or-zero2 .ensures .0)
+    (c .before .before .sample-or-zero3 .ensures .0) (c .before .sample-or-zero4 .ensures .0)
 
 pub pack-group-spec : {M : Type 1} → statement M
 pack-group-spec =

@@ -29,7 +29,13 @@ slice-aggregate-store-bytes : tie.Need-slice-aggregate-store-bytes Inv-loop μ-l
 slice-aggregate-store-bytes c = search needs
 
 store-bytes-requires : tie.Need-store-bytes-requires Inv-loop μ-loop
-store-bytes-requires c κs = omega (arith, ap length (c .before .before .pack-group .ensures) ∙ length-packed _, c .before .before .before .before .loop .inv .1 .size)
+store-bytes-requires c κs =
+    omega (
+      arith,
+      ap length (c .before .before .pack-group .ensures)
+          ∙ length-packed _,
+      c .before .before .before .before .loop .inv .1 .size,
+    )
 
 add-g : tie.Need-add-g Inv-loop μ-loop
 add-g c = search needs
@@ -38,7 +44,11 @@ loop-less : tie.Need-loop-less Inv-loop μ-loop
 loop-less c = search needs
 
 loop-again : tie.Need-loop-again Inv-loop μ-loop
-loop-again c = (omega arith, stored-next _ _ _ _ _ _ (omega arith) (c .before .before .before .before .before .before .before .loop .inv .1) (c .before .before .before .before .before .pack-group .ensures) (c .before .before .store-bytes .ensures))
+loop-again c = (
+  omega arith,
+  stored-next _ _ _ _ _ _ (omega arith) (c .before .before .before .before .before .before .before .loop .inv .1)
+      (c .before .before .before .before .before .pack-group .ensures) (c .before .before .store-bytes .ensures),
+)
 
 same-length : tie.Need-same-length Inv-loop μ-loop
 same-length c = c .before .loop .inv .1 .size ∙ sym (c .before .before .before .before .pre .1)

@@ -47,7 +47,8 @@ returns c =
     let second = third .before .before .before .before in
     let first = second .before .before .before .before in
     let start = first .before .before .before in
-    four-stores (start .args .samples .now) (first .store-sample .last .0) (second .store-sample2 .last .0) (third .store-sample3 .last .0) (fourth .store-sample4 .last .0)
+    four-stores (start .args .samples .now) (first .store-sample .last .0) (second .store-sample2 .last .0)
+    (third .store-sample3 .last .0) (fourth .store-sample4 .last .0)
     (start .args .t3) (start .args .k) (start .pre .1)
     (first .store-sample .ensures) (second .store-sample2 .ensures) (third .store-sample3 .ensures) (fourth .store-sample4 .ensures)
 

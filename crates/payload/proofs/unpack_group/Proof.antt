@@ -39,7 +39,9 @@ unpack-requires : tie.Need-unpack-requires
 unpack-requires c κs = search needs
 
 returns : tie.Need-returns
-returns c = c .unpack .ensures ∙ unpacked-group (c .before .before .before .before .before .before .before .args .payload .now) (c .before .before .before .before .before .before .before .args .g)
+returns c = c .unpack .ensures
+    ∙ unpacked-group (c .before .before .before .before .before .before .before .args .payload .now)
+    (c .before .before .before .before .before .before .before .args .g)
 
 pub unpack-group-spec : {M : Type 1} → statement M
 unpack-group-spec =

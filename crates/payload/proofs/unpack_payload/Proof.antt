@@ -32,7 +32,10 @@ loop-less : tie.Need-loop-less Inv-loop μ-loop
 loop-less c = search needs
 
 loop-again : tie.Need-loop-again Inv-loop μ-loop
-loop-again c = filled-next _ _ _ _ _ _ (omega arith) (c .before .before .before .before .before .before .before .before .before .pre .1) (c .before .before .before .before .before .before .loop .inv) (c .before .before .before .before .unpack-group .ensures) (c .before .before .store-group .ensures)
+loop-again c =
+    filled-next _ _ _ _ _ _ (omega arith) (c .before .before .before .before .before .before .before .before .before .pre .1)
+    (c .before .before .before .before .before .before .loop .inv) (c .before .before .before .before .unpack-group .ensures)
+    (c .before .before .store-group .ensures)
 
 same-length : tie.Need-same-length Inv-loop μ-loop
 same-length c = c .before .loop .inv .size

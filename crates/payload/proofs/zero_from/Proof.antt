@@ -30,7 +30,10 @@ array-read-if1 : tie.Need-array-read-if1 Inv-loop μ-loop
 array-read-if1 c = search needs
 
 returns : tie.Need-returns Inv-loop μ-loop
-returns c = sym (c .before .before .before .loop .inv ∙ zero-stop (c .before .before .before .before .before .args .payload .now) (c .before .before .before .loop .k) _ (omega arith) (c .before .unpack-group .ensures) (c .if1 .taken))
+returns c =
+    sym (c .before .before .before .loop .inv
+    ∙ zero-stop (c .before .before .before .before .before .args .payload .now) (c .before .before .before .loop .k) _ (omega arith)
+    (c .before .unpack-group .ensures) (c .if1 .taken))
 
 add-k : tie.Need-add-k Inv-loop μ-loop
 add-k c = search needs
@@ -39,7 +42,9 @@ loop-less : tie.Need-loop-less Inv-loop μ-loop
 loop-less c = search needs
 
 loop-again : tie.Need-loop-again Inv-loop μ-loop
-loop-again c = c .before .before .before .loop .inv ∙ zero-on (c .before .before .before .before .before .args .payload .now) (c .before .before .before .loop .k) _ (omega arith) (c .before .unpack-group .ensures) (c .if1 .left)
+loop-again c = c .before .before .before .loop .inv
+    ∙ zero-on (c .before .before .before .before .before .args .payload .now) (c .before .before .before .loop .k) _ (omega arith)
+    (c .before .unpack-group .ensures) (c .if1 .left)
 
 returns-2 : tie.Need-returns-2 Inv-loop μ-loop
 returns-2 c = sym (c .before .loop .inv ∙ zero-end (c .before .before .before .args .payload .now) (c .before .loop .k) (omega arith))

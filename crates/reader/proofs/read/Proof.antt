@@ -14,7 +14,9 @@ first-passed : (c : tie.After-enum-told) → first-answer (c .before .before .be
 first-passed c = sym (c .before .before .test-first .ensures) ∙ c .enum-told .given .1
 
 -- samples and blocks are counted
-counted : (c : tie.After-count-for) → Counted (c .before .before .before .before .before .before .before .before .before .args .file .now) (c .before .before .header-of .result) (c .before .sample-count .result) (c .count-for .result)
+counted : (c : tie.After-count-for)
+    → Counted (c .before .before .before .before .before .before .before .before .before .args .file .now)
+    (c .before .before .header-of .result) (c .before .sample-count .result) (c .count-for .result)
 unfolding block part
 counted c = record {
   done = first-passed (c .before .before .before .before);
@@ -49,7 +51,9 @@ header-of-requires c κs = search needs
 
 sample-count-requires : tie.Need-sample-count-requires
 unfolding block part
-sample-count-requires c κs = sides-small (c .before .before .before .before .before .before .before .args .file .now) (first-passed (c .before .before)) _ (c .header-of .ensures)
+sample-count-requires c κs =
+    sides-small (c .before .before .before .before .before .before .before .args .file .now) (first-passed (c .before .before)) _
+    (c .header-of .ensures)
 
 count-for-requires : tie.Need-count-for-requires
 count-for-requires c κs = search needs
@@ -82,11 +86,15 @@ part-unpack-blocks-end : tie.Need-part-unpack-blocks-end
 part-unpack-blocks-end c = search needs
 
 unpack-blocks-requires : tie.Need-unpack-blocks-requires
-unpack-blocks-requires c κs = front-fits _ _ _ _ _ (counted (c .before .before .before .before .before .before)) (c .before .before .before .before .before .if1 .left) (c .before .before .before .before .if2 .left)
+unpack-blocks-requires c κs =
+    front-fits _ _ _ _ _ (counted (c .before .before .before .before .before .before))
+    (c .before .before .before .before .before .if1 .left) (c .before .before .before .before .if2 .left)
 
 returns-4 : tie.Need-returns-4
 returns-4 c =
-    blocks-refused _ _ _ _ _ (counted (c .before .before .before .before .before .before)) (c .before .before .before .before .before .if1 .left) (c .before .before .before .before .if2 .left) _ (sym (c .before .before .before .test-blocks .ensures) ∙ c .before .why2 .given .1)
+    blocks-refused _ _ _ _ _ (counted (c .before .before .before .before .before .before))
+    (c .before .before .before .before .before .if1 .left) (c .before .before .before .before .if2 .left) _
+    (sym (c .before .before .before .test-blocks .ensures) ∙ c .before .why2 .given .1)
 
 same-length : tie.Need-same-length
 same-length c = search needs
@@ -94,7 +102,8 @@ same-length c = search needs
 returns-5 : tie.Need-returns-5
 returns-5 c =
     let tested = c .before .before .before .before .before .before in
-    all-read _ _ _ _ _ (counted (tested .before .before .before)) (tested .before .before .if1 .left) (tested .before .if2 .left) (sym (tested .test-blocks .ensures) ∙ c .before .before .before .before .enum-told2 .given .1) _
+    all-read _ _ _ _ _ (counted (tested .before .before .before)) (tested .before .before .if1 .left) (tested .before .if2 .left)
+    (sym (tested .test-blocks .ensures) ∙ c .before .before .before .before .enum-told2 .given .1) _
     (c .before .before .unpack-blocks .ensures)
 
 pub read-spec : {M : Type 1} → statement M

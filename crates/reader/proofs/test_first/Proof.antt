@@ -47,14 +47,16 @@ returns-3 : tie.Need-returns-3
 unfolding block part
 returns-3 c =
     let even = c .before .before .before .before .before in
-    block-refused _ (even .before .if1 .left) (even .if2 .left) _ (sym (c .before .before .before .test-block .ensures) ∙ c .before .why .given .1)
+    block-refused _ (even .before .if1 .left) (even .if2 .left) _
+    (sym (c .before .before .before .test-block .ensures) ∙ c .before .why .given .1)
 
 returns-4 : tie.Need-returns-4
 unfolding block part
 returns-4 c =
     let passed = c .before .before in
     let even = passed .before .before .before .before in
-    header-next _ (even .before .if1 .left) (even .if2 .left) _ (sym (passed .before .before .test-block .ensures) ∙ passed .enum-told .given .1) (c .test-header .ensures)
+    header-next _ (even .before .if1 .left) (even .if2 .left) _
+    (sym (passed .before .before .test-block .ensures) ∙ passed .enum-told .given .1) (c .test-header .ensures)
 
 pub test-first-spec : {M : Type 1} → statement M
 test-first-spec =

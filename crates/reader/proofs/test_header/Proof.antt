@@ -19,7 +19,9 @@ shape-in-range-requires : tie.Need-shape-in-range-requires
 shape-in-range-requires c κs = search needs
 
 returns-2 : tie.Need-returns-2
-returns-2 c = shape-refused _ (c .before .before .before .before .tagged .ensures) (c .before .before .before .if1 .left) (c .before .before .header-of .ensures) (c .before .shape-in-range .ensures) (c .if2 .taken)
+returns-2 c =
+    shape-refused _ (c .before .before .before .before .tagged .ensures) (c .before .before .before .if1 .left)
+    (c .before .before .header-of .ensures) (c .before .shape-in-range .ensures) (c .if2 .taken)
 
 sub-zero : tie.Need-sub-zero
 sub-zero c = search needs
@@ -38,14 +40,16 @@ unfolding part header-filler
 returns-3 c =
     let shape = c .before .before .before in
     let tag = shape .before .before .before in
-    filler-refused _ (tag .before .tagged .ensures) (tag .if1 .left) (shape .before .before .header-of .ensures) (shape .before .shape-in-range .ensures) (shape .if2 .left) (c .before .zero .ensures) (c .if3 .taken)
+    filler-refused _ (tag .before .tagged .ensures) (tag .if1 .left) (shape .before .before .header-of .ensures)
+    (shape .before .shape-in-range .ensures) (shape .if2 .left) (c .before .zero .ensures) (c .if3 .taken)
 
 returns-4 : tie.Need-returns-4
 unfolding part header-filler
 returns-4 c =
     let shape = c .before .before .before in
     let tag = shape .before .before .before in
-    header-done _ (tag .before .tagged .ensures) (tag .if1 .left) (shape .before .before .header-of .ensures) (shape .before .shape-in-range .ensures) (shape .if2 .left) (c .before .zero .ensures) (c .if3 .left)
+    header-done _ (tag .before .tagged .ensures) (tag .if1 .left) (shape .before .before .header-of .ensures)
+    (shape .before .shape-in-range .ensures) (shape .if2 .left) (c .before .zero .ensures) (c .if3 .left)
 
 pub test-header-spec : {M : Type 1} → statement M
 test-header-spec =

@@ -28,7 +28,8 @@ enum-known-why c = search needs
 returns : tie.Need-returns
 returns c =
     let start = c .before .before .before .before .before .before .args in
-    later-refused (start .file .now) (start .samples) (start .n) (c .before .before .before .test-block .ensures) _ (c .before .why .given .1)
+    later-refused (start .file .now) (start .samples) (start .n) (c .before .before .before .test-block .ensures) _
+    (c .before .why .given .1)
 
 enum-told : tie.Need-enum-told
 enum-told c = search needs
@@ -55,7 +56,8 @@ returns-2 : tie.Need-returns-2
 returns-2 c =
     let passed = c .before .before .before in
     let start = passed .before .before .before .before .before .args in
-    bytes-refused (start .file .now) (start .samples) (start .n) (passed .before .before .test-block .ensures) (passed .enum-told .given .1) (c .before .zero .ensures) (c .if1 .taken)
+    bytes-refused (start .file .now) (start .samples) (start .n) (passed .before .before .test-block .ensures)
+    (passed .enum-told .given .1) (c .before .zero .ensures) (c .if1 .taken)
 
 payload-requires : tie.Need-payload-requires
 payload-requires c κs = search needs
@@ -77,7 +79,8 @@ returns-3 c =
     let bytes = c .before .before .before in
     let passed = bytes .before .before .before in
     let start = passed .before .before .before .before .before .args in
-    samples-refused (start .file .now) (start .samples) (start .n) (passed .before .before .test-block .ensures) (passed .enum-told .given .1) (bytes .before .zero .ensures) (bytes .if1 .left)
+    samples-refused (start .file .now) (start .samples) (start .n) (passed .before .before .test-block .ensures)
+    (passed .enum-told .given .1) (bytes .before .zero .ensures) (bytes .if1 .left)
     (c .before .before .payload .ensures .0) (c .before .zero-from .ensures) (c .if2 .taken)
 
 returns-4 : tie.Need-returns-4
@@ -85,7 +88,8 @@ returns-4 c =
     let bytes = c .before .before .before in
     let passed = bytes .before .before .before in
     let start = passed .before .before .before .before .before .args in
-    later-done (start .file .now) (start .samples) (start .n) (passed .before .before .test-block .ensures) (passed .enum-told .given .1) (bytes .before .zero .ensures) (bytes .if1 .left)
+    later-done (start .file .now) (start .samples) (start .n) (passed .before .before .test-block .ensures)
+    (passed .enum-told .given .1) (bytes .before .zero .ensures) (bytes .if1 .left)
     (c .before .before .payload .ensures .0) (c .before .zero-from .ensures) (c .if2 .left)
 
 pub test-later-spec : {M : Type 1} → statement M

@@ -24,7 +24,12 @@ payload-requires : tie.Need-payload-requires Inv-loop μ-loop
 payload-requires c κs =
     let at-loop = c .before .before in
     let inv = at-loop .loop .inv in
-    omega (arith, at-loop .before .before .before .pre, block-inside (length (at-loop .before .before .before .args .samples .now)) (at-loop .loop .n) (inv .low) (omega (arith, inv .place, inv .size)))
+    omega (
+      arith,
+      at-loop .before .before .before .pre,
+      block-inside (length (at-loop .before .before .before .args .samples .now))
+          (at-loop .loop .n) (inv .low) (omega (arith, inv .place, inv .size)),
+    )
 
 mul-unpack-payload : tie.Need-mul-unpack-payload Inv-loop μ-loop
 mul-unpack-payload c = search needs
@@ -39,19 +44,33 @@ part-unpack-payload-end : tie.Need-part-unpack-payload-end Inv-loop μ-loop
 part-unpack-payload-end c = search needs
 
 unpack-payload-requires : tie.Need-unpack-payload-requires Inv-loop μ-loop
-unpack-payload-requires c κs = (c .before .payload .ensures .1, simp (length-take, length-drop) (omega (arith, c .before .before .end-of .ensures)))
+unpack-payload-requires c κs =
+    (c .before .payload .ensures .1, simp (length-take, length-drop) (omega (arith, c .before .before .end-of .ensures)))
 
 add-n : tie.Need-add-n Inv-loop μ-loop
 add-n c =
     let at-loop = c .before .before .before .before .before .before .before in
     let inv = at-loop .loop .inv in
-    omega (arith, at-loop .before .before .before .pre, block-inside (length (at-loop .before .before .before .args .samples .now)) (at-loop .loop .n) (inv .low) (omega (arith, inv .place, inv .size)))
+    omega (
+      arith,
+      at-loop .before .before .before .pre,
+      block-inside (length (at-loop .before .before .before .args .samples .now))
+          (at-loop .loop .n) (inv .low) (omega (arith, inv .place, inv .size)),
+    )
 
 loop-less : tie.Need-loop-less Inv-loop μ-loop
-loop-less c = omega (arith, c .before .before .before .before .before .end-of .ensures, c .before .before .before .before .before .before .before .loop .inv .size)
+loop-less c =
+    omega (
+      arith,
+      c .before .before .before .before .before .end-of .ensures,
+      c .before .before .before .before .before .before .before .loop .inv .size,
+    )
 
 loop-again : tie.Need-loop-again Inv-loop μ-loop
-loop-again c = unpacked-next _ _ _ _ _ _ (omega arith) (c .before .before .before .before .before .end-of .ensures) (c .before .before .before .before .before .before .before .loop .inv) _ _ (c .before .before .before .before .payload .ensures .0) (c .before .before .unpack-payload .ensures)
+loop-again c =
+    unpacked-next _ _ _ _ _ _ (omega arith) (c .before .before .before .before .before .end-of .ensures)
+    (c .before .before .before .before .before .before .before .loop .inv) _ _
+    (c .before .before .before .before .payload .ensures .0) (c .before .before .unpack-payload .ensures)
 
 same-length : tie.Need-same-length Inv-loop μ-loop
 same-length c = c .before .loop .inv .size

@@ -22,7 +22,10 @@ shared-slice-read-if1 : tie.Need-shared-slice-read-if1 Inv-loop μ-loop
 shared-slice-read-if1 c = search needs
 
 returns : tie.Need-returns Inv-loop μ-loop
-returns c = sym (c .before .before .before .loop .inv ∙ zero-stop (c .before .before .before .before .args .bytes .now) (c .before .before .before .loop .k) (omega arith) (c .if1 .taken))
+returns c =
+    sym (c .before .before .before .loop .inv
+    ∙ zero-stop (c .before .before .before .before .args .bytes .now) (c .before .before .before .loop .k) (omega arith)
+    (c .if1 .taken))
 
 add-k : tie.Need-add-k Inv-loop μ-loop
 add-k c = search needs
@@ -31,7 +34,9 @@ loop-less : tie.Need-loop-less Inv-loop μ-loop
 loop-less c = search needs
 
 loop-again : tie.Need-loop-again Inv-loop μ-loop
-loop-again c = c .before .before .before .loop .inv ∙ zero-on (c .before .before .before .before .args .bytes .now) (c .before .before .before .loop .k) (omega arith) (c .if1 .left)
+loop-again c = c .before .before .before .loop .inv
+    ∙ zero-on (c .before .before .before .before .args .bytes .now) (c .before .before .before .loop .k) (omega arith)
+    (c .if1 .left)
 
 returns-2 : tie.Need-returns-2 Inv-loop μ-loop
 returns-2 c = sym (c .before .loop .inv ∙ all-zero-past (c .before .before .args .bytes .now) (c .before .loop .k) (omega arith))

@@ -24,7 +24,8 @@ returns c =
     let checked = c .before .before in
     let stored = checked .before .before .before .before in
     let front = stored .before .before .before in
-    header-composed _ _ _ _ _ (front .before .before .pre .0 .1) (front .header-front .ensures) (stored .store-bytes .ensures) (checked .store-check .ensures)
+    header-composed _ _ _ _ _ (front .before .before .pre .0 .1) (front .header-front .ensures) (stored .store-bytes .ensures)
+    (checked .store-check .ensures)
 
 pub fill-header-spec : {M : Type 1} → statement M
 fill-header-spec =

@@ -37,7 +37,8 @@ returns c =
     let packed = checked .before .before .before .before in
     let stored = packed .before .before .before .before in
     let number = stored .before .before .before in
-    samples-composed _ _ _ _ _ _ _ (number .before .before .before .pre .0 .1) (number .bytes4 .ensures) (packed .pack-payload .ensures) (stored .store-bytes .ensures) (checked .store-check .ensures)
+    samples-composed _ _ _ _ _ _ _ (number .before .before .before .pre .0 .1) (number .bytes4 .ensures)
+    (packed .pack-payload .ensures) (stored .store-bytes .ensures) (checked .store-check .ensures)
 
 pub fill-samples-spec : {M : Type 1} → statement M
 fill-samples-spec =

@@ -22,7 +22,10 @@ same-length : tie.Need-same-length
 same-length c = search needs
 
 returns : tie.Need-returns
-returns c = c .before .before .store-bytes .ensures ∙ check-stored _ _ (c .before .before .before .before .before .before .before .before .before .pre) (c .before .before .before .before .before .bytes4 .ensures ∙ ap (little-endian-bytes 4) (c .before .before .before .before .before .before .check-of .ensures))
+returns c = c .before .before .store-bytes .ensures
+    ∙ check-stored _ _ (c .before .before .before .before .before .before .before .before .before .pre)
+    (c .before .before .before .before .before .bytes4 .ensures
+    ∙ ap (little-endian-bytes 4) (c .before .before .before .before .before .before .check-of .ensures))
 
 pub store-check-spec : {M : Type 1} → statement M
 store-check-spec =

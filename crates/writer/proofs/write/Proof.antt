@@ -13,15 +13,20 @@ use Rattle.writer.proofs.write.Statement.{statement}
 use Rattle.writer.proofs.write.Tie as tie
 
 -- the shape passes its tests
-passed : (c : tie.After-enum-told) → shape-answer (c .before .before .before .before .before .args .shape) (length (c .before .before .before .before .before .args .mosaic .now)) ≡ Done
+passed : (c : tie.After-enum-told)
+    → shape-answer (c .before .before .before .before .before .args .shape)
+    (length (c .before .before .before .before .before .args .mosaic .now)) ≡ Done
 passed c = sym (c .before .before .test-shape .ensures) ∙ c .enum-told .given .1
 
 -- the file has its length
-sized : (c : tie.Else1) → length (c .before .before .before .before .before .before .before .args .file .now) ≡ 512 * block-count (length (c .before .before .before .before .before .before .before .args .mosaic .now))
+sized : (c : tie.Else1)
+    → length (c .before .before .before .before .before .before .before .args .file .now) ≡ 512 * block-count
+    (length (c .before .before .before .before .before .before .before .args .mosaic .now))
 sized c = c .if1 .left ∙ ap (λ (n : ℕ). 512 * n) (c .before .count-for .ensures .0)
 
 -- the samples are in range
-small : (c : tie.After-enum-told2) → samples-answer 0 (c .before .before .before .before .before .before .before .before .before .before .args .mosaic .now) ≡ Done
+small : (c : tie.After-enum-told2)
+    → samples-answer 0 (c .before .before .before .before .before .before .before .before .before .before .args .mosaic .now) ≡ Done
 small c = sym (c .before .before .test-samples .ensures) ∙ c .enum-told2 .given .1
 
 test-shape-requires : tie.Need-test-shape-requires
@@ -37,13 +42,18 @@ enum-told : tie.Need-enum-told
 enum-told c = search needs
 
 count-for-requires : tie.Need-count-for-requires
-count-for-requires c κs = count-most _ _ (shape-passes (c .before .before .before .before .before .args .shape) (length (c .before .before .before .before .before .args .mosaic .now)) (passed c))
+count-for-requires c κs =
+    count-most _ _
+    (shape-passes (c .before .before .before .before .before .args .shape)
+    (length (c .before .before .before .before .before .args .mosaic .now)) (passed c))
 
 mul-size : tie.Need-mul-size
 mul-size c = search needs
 
 returns-2 : tie.Need-returns-2
-returns-2 c = size-refused _ _ _ (passed (c .before .before)) (λ q. c .if1 .taken (q ∙ ap (λ (n : ℕ). 512 * n) (sym (c .before .count-for .ensures .0))))
+returns-2 c =
+    size-refused _ _ _ (passed (c .before .before))
+    (λ q. c .if1 .taken (q ∙ ap (λ (n : ℕ). 512 * n) (sym (c .before .count-for .ensures .0))))
 
 test-samples-requires : tie.Need-test-samples-requires
 test-samples-requires c κs = search needs
@@ -57,16 +67,22 @@ enum-told-2 c = search needs
 write-blocks-requires : tie.Need-write-blocks-requires
 write-blocks-requires c κs =
     let start = c .before .before .before .before .before .before .before .before .before .before .before .args in
-    ready (start .shape) (start .mosaic .now) (start .file .now) (passed (c .before .before .before .before .before .before)) (sized (c .before .before .before .before)) (small (c .before))
+    ready (start .shape) (start .mosaic .now) (start .file .now) (passed (c .before .before .before .before .before .before))
+    (sized (c .before .before .before .before)) (small (c .before))
 
 returns-3 : tie.Need-returns-3
-returns-3 c = samples-refused _ _ _ (passed (c .before .before .before .before .before .before)) (sized (c .before .before .before .before)) _ (sym (c .before .before .before .test-samples .ensures) ∙ c .before .why2 .given .1)
+returns-3 c =
+    samples-refused _ _ _ (passed (c .before .before .before .before .before .before)) (sized (c .before .before .before .before)) _
+    (sym (c .before .before .before .test-samples .ensures) ∙ c .before .why2 .given .1)
 
 same-length : tie.Need-same-length
 same-length c = search needs
 
 returns-4 : tie.Need-returns-4
-returns-4 c = all-written _ _ _ (passed (c .before .before .before .before .before .before .before .before .before)) (sized (c .before .before .before .before .before .before .before)) (small (c .before .before .before .before)) _ (c .before .before .write-blocks .ensures)
+returns-4 c =
+    all-written _ _ _ (passed (c .before .before .before .before .before .before .before .before .before))
+    (sized (c .before .before .before .before .before .before .before)) (small (c .before .before .before .before)) _
+    (c .before .before .write-blocks .ensures)
 
 pub write-spec : {M : Type 1} → statement M
 write-spec =

@@ -22,7 +22,9 @@ same-length : tie.Need-same-length
 same-length c = search needs
 
 returns : tie.Need-returns
-returns c = c .before .before .store-bytes .ensures ∙ ap (put-at (c .before .before .before .before .before .before .before .before .before .args .file .now) 0) (c .before .before .before .before .before .before .fill-header .ensures)
+returns c = c .before .before .store-bytes .ensures
+    ∙ ap (put-at (c .before .before .before .before .before .before .before .before .before .args .file .now) 0)
+    (c .before .before .before .before .before .before .fill-header .ensures)
 
 pub write-header-spec : {M : Type 1} → statement M
 write-header-spec =
