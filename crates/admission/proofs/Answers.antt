@@ -8,14 +8,14 @@ use lib.Dec.{leb}
 use lib.ListN.{length, getD, drop, drop-of-length-le}
 use lib.Seq.{drop-cons}
 use borrow.Author.Tests.{not-true, not-false, ne-eqb}
-use Rattle.toolkit.specs.Tests.{leb-yes, leb-no, eqb-yes}
+use Rattle.toolkit.specs.Tests.{holds, leb-yes, leb-no, eqb-yes}
 use Rattle.frame.specs.declared.Shape.{Shape}
 use Rattle.frame.specs.declared.Refusal.the-variants.{Size, Phase, MosaicLength, Sample}
 use Rattle.frame.specs.declared.Answer.the-variants.{Done, Refused}
 use Rattle.frame.specs.Sites.{side-allowed, phase-allowed, highest-sample}
 use Rattle.frame.specs.Calls.{tested, samples-answer}
 use Rattle.admission.specs.ShapeTest.{shape-allowed, shape-answer}
-use Rattle.admission.specs.Allowed.{side-most}
+use Rattle.frame.specs.Admission.{side-high}
 
 -- ---- a side
 
@@ -32,7 +32,7 @@ unfolding side-allowed
 side-between n l h = rw (leb-yes {m = 2} {n = n} l, leb-yes {m = n} {n = 4096} h)
 
 pub side-at-most : {t : Bool} (n : ℕ) → t ≡ side-allowed n → not t ≡ false → n ≤ 4096
-side-at-most {t} n e h = side-most n (sym e ∙ not-false t h)
+side-at-most {t} n e h = side-high (holds (sym e ∙ not-false t h))
 
 -- ---- a shape
 

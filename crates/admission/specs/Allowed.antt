@@ -1,21 +1,15 @@
 -- What holds of a shape that passes numbers 1, 2 and 3. Assumes nothing.
 use mathlib.Core.Path.{_≡_}
-use mathlib.Core.Bool.{true}
 use Prim.Native.Nat.{ℕ, _*_, _≤_}
 use native.Mathlib.Nat.{mul-le-mul}
 use native.Mathlib.Omega.{arith}
-use lib.Dec.{leb}
-use Rattle.toolkit.specs.Tests.{leb-le, eqb-eq}
+use Rattle.toolkit.specs.Tests.{holds, leb-le, eqb-eq}
 use Rattle.frame.specs.declared.Shape.{Shape}
 use Rattle.frame.specs.declared.Refusal.the-variants.{Size, Phase, MosaicLength}
 use Rattle.frame.specs.declared.Answer.the-variants.{Done}
 use Rattle.frame.specs.Sites.{side-allowed, phase-allowed}
-use Rattle.frame.specs.Admission.{and-true, tested-done}
+use Rattle.frame.specs.Admission.{and-true, tested-done, side-high}
 use Rattle.admission.specs.ShapeTest.{shape-answer}
-
-pub side-most : (n : ℕ) → side-allowed n ≡ true → n ≤ 4096
-unfolding side-allowed
-side-most n e = leb-le n 4096 (and-true (leb 2 n) (leb n 4096) e .1)
 
 pub record Allowed (shape : Shape) (count : ℕ) : Type 0 where
   pub width : shape .width ≤ 4096
@@ -31,11 +25,10 @@ shape-passes shape count e =
     let samples = tested-done _ MosaicLength _ (phase .1) in
     let both = and-true (side-allowed (shape .width)) (side-allowed (shape .height)) (sides .0) in
     record {
-      width = side-most _ (both .0);
-      height = side-most _ (both .1);
+      width = side-high (holds (both .0));
+      height = side-high (holds (both .1));
       phase = leb-le _ 3 (phase .0);
-      samples = eqb-eq _ _
-          (samples .0);
+      samples = eqb-eq _ _ (samples .0);
     }
 
 -- W·H of such a shape

@@ -10,7 +10,7 @@ use Rattle.toolkit.specs.Raster.{raster}
 use Rattle.toolkit.specs.Rounding.{round-half-up}
 use Rattle.frame.specs.Sites.{Frame, sample, highest-sample, red, green, blue, rggb, colour, reflect-once, reflect-times, reflect, around}
 use Rattle.frame.specs.Calls.{held}
-use Rattle.method.specs.Gradients.{Directions, mosaic, apart, taps, six-tap, six-tap-pair, eastbound, east-gradient, west-gradient, gradients, gradients-at}
+use Rattle.method.specs.Gradients.{FourDirections, mosaic, apart, taps, six-tap, six-tap-pair, eastbound, east-gradient, west-gradient, gradients, gradients-at}
 use Rattle.method.specs.Green.{Direction, horizontal, diagonal, line-estimate, horizontal-estimate, half, estimate, threshold, Outcome, strong-down, weak, outcome, first-pass, outcome-at, first-pass-or, green-or, less-eight, trial-difference, reach, sum-about, column-sum, horizontal-sum, vertical-sum, diagonal-sum, least-sum, second-pass, second-pass-at, green-at}
 use Rattle.method.specs.Planes.{inner-round, one-if-zero, count-zeros, weight, weights, times, sum-of-four, weighted-sum, total, weighted-mean, green-difference, straight, mean-two-off, fusion-share, fused, final-difference, corners, diagonally, corner-gradients, chroma-site-difference, colour-difference, green-quarters, quarters, final-round, output, plane}
 use Rattle.frame_file.specs.Lists.{zeros, joined}
@@ -33,7 +33,7 @@ pub record Case : Type 0 where
   pub given : List Value
   pub told : List Value
 
-abbrev four : {X : Type 0} → X → X → X → X → Directions X
+abbrev four : {X : Type 0} → X → X → X → X → FourDirections X
 four e w s n = record { east = e; west = w; south = s; north = n }
 
 -- "the frame above": W = H = 2, p = 0, samples 100 40 61 200
@@ -80,19 +80,15 @@ cases =
     ∷ record { given = numbers (weighted-mean (four (pos 8) (pos 100) (pos 3) (pos 100)) (four 0 5 0 5) ∷ []); told = naturals (6 ∷ []) }
     -- K7: with −8 and −3 for 8 and 3, −5
     ∷ record {
-      given =
-          numbers (weighted-mean (four (negsuc 7) (pos 100) (negsuc 2) (pos 100)) (four 0 5 0 5) ∷ []);
-      told =
-          numbers (negsuc 4 ∷ []);
+      given = numbers (weighted-mean (four (negsuc 7) (pos 100) (negsuc 2) (pos 100)) (four 0 5 0 5) ∷ []);
+      told = numbers (negsuc 4 ∷ []);
     }
     -- K8: gradients 1,2,4,4 with 4,0,0,0 give 2
     ∷ record { given = numbers (weighted-mean (four (pos 4) (pos 0) (pos 0) (pos 0)) (four 1 2 4 4) ∷ []); told = naturals (2 ∷ []) }
     -- K9: quarters −2, −6, 2 give 0, −1, 1
     ∷ record {
-      given =
-          numbers (final-round (negsuc 1) ∷ final-round (negsuc 5) ∷ final-round (pos 2) ∷ []);
-      told =
-          numbers (pos 0 ∷ negsuc 0 ∷ pos 1 ∷ []);
+      given = numbers (final-round (negsuc 1) ∷ final-round (negsuc 5) ∷ final-round (pos 2) ∷ []);
+      told = numbers (pos 0 ∷ negsuc 0 ∷ pos 1 ∷ []);
     }
     -- K10: E(0,0), E(0,2), E(0,3) are 3,200, 9,600, 9,600
     ∷ record {
@@ -110,7 +106,7 @@ cases =
     ∷ []
 
 pub all-cases : map (λ (c : Case). c .given) cases ≡ map (λ (c : Case). c .told) cases
-unfolding cases digits decimal numbers-line heading clamped-at site-text frame-text held highest-sample joined tabulate raster round-half-up sample rggb colour reflect-once reflect-times reflect around mosaic apart taps six-tap six-tap-pair eastbound east-gradient west-gradient gradients gradients-at line-estimate horizontal-estimate half estimate threshold outcome first-pass outcome-at green-or less-eight trial-difference reach sum-about column-sum horizontal-sum vertical-sum diagonal-sum least-sum second-pass second-pass-at green-at inner-round one-if-zero count-zeros weight weights times sum-of-four weighted-sum total weighted-mean green-difference straight mean-two-off fusion-share fused final-difference corners diagonally corner-gradients chroma-site-difference colour-difference green-quarters quarters final-round output plane zeros File.packed File.check File.weighted-sum File.little-endian-bytes
+unfolding cases digits decimal numbers-line heading clamped-at site-text frame-text held highest-sample joined tabulate raster round-half-up sample rggb colour reflect-once reflect-times reflect around mosaic apart taps six-tap six-tap-pair eastbound east-gradient west-gradient gradients gradients-at line-estimate horizontal-estimate half estimate threshold outcome first-pass outcome-at green-or less-eight trial-difference reach sum-about column-sum horizontal-sum vertical-sum diagonal-sum least-sum second-pass second-pass-at green-at inner-round one-if-zero count-zeros weight weights times sum-of-four weighted-sum total weighted-mean green-difference straight mean-two-off fusion-share fused final-difference corners diagonally corner-gradients chroma-site-difference colour-difference green-quarters quarters final-round output plane zeros File.packed File.check File.position-weighted-sum File.little-endian-bytes
 all-cases = refl
 
 -- each row, counted from 0

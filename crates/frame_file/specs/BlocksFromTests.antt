@@ -7,7 +7,7 @@ use native.Mathlib.Omega.{arith}
 use lib.ListN.{length, getD}
 use lib.Seq.{drop-cons}
 use Rattle.toolkit.specs.Tests.{eqb-eq}
-use Rattle.frame_file.specs.Lists.{part, length-part, part-split, zeros, all-zero, all-zero-zeros, same-equal, Below, below-part}
+use Rattle.frame_file.specs.Lists.{part, length-part, part-split, zeros, all-zero, all-zero-zeros, same-list-equal, Below, below-part}
 use Rattle.frame_file.specs.FrameFile.{little-endian-bytes, tag, has-tag, header, header-filler, block-number, block-filler, packed-payload, unpacked-payload, with-check, check-holds, number-holds, header-bytes, sample-bytes}
 use Rattle.frame_file.specs.LittleEndian.{part-of-number}
 use Rattle.frame_file.specs.Check.{check-holds-with-check}
@@ -31,7 +31,7 @@ module _ (b : List ℕ) (size : length b ≡ 512) (bytes : Below 256 b) where
 
   tag-part : has-tag b ≡ true → part b 4 4 ≡ tag
   unfolding has-tag
-  tag-part t = same-equal (part b 4 4) tag t
+  tag-part t = same-list-equal (part b 4 4) tag t
 
   header-part : number-holds b 0 ≡ true → has-tag b ≡ true → all-zero (header-filler b) ≡ true → part b 0 508 ≡ header-bytes (header b)
   unfolding header-bytes header header-filler

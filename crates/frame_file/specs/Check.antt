@@ -9,25 +9,25 @@ use native.Mathlib.Omega.{arith}
 use lib.ListN.{length, getD, length-append, List·getD-append}
 use Rattle.toolkit.specs.Tests.{eqb-eq, eqb-yes}
 use Rattle.frame_file.specs.Lists.{part, getD-front, part-split, part-whole, part-middle, Below, below-append}
-use Rattle.frame_file.specs.FrameFile.{little-endian, little-endian-bytes, weighted-sum, check, stored-check, check-holds, with-check}
+use Rattle.frame_file.specs.FrameFile.{little-endian, little-endian-bytes, position-weighted-sum, check, stored-check, check-holds, with-check}
 use Rattle.frame_file.specs.LittleEndian.{length-little-endian-bytes, below-little-endian-bytes, number-of-bytes, part-of-number}
 
-pub weighted-sum-cong : (n : ℕ) (f g : ℕ → ℕ) → ((k : ℕ) → k < n → f k ≡ g k) → weighted-sum f n ≡ weighted-sum g n
-unfolding weighted-sum
+pub weighted-sum-cong : (n : ℕ) (f g : ℕ → ℕ) → ((k : ℕ) → k < n → f k ≡ g k) → position-weighted-sum f n ≡ position-weighted-sum g n
+unfolding position-weighted-sum
 weighted-sum-cong zero f g e = refl
 weighted-sum-cong (suc n) f g e =
     ap₂ (λ (a b : ℕ). a + (n + 1) * b) (weighted-sum-cong n f g (λ k h. e k (omega arith))) (e n (le-refl (suc n)))
 
-pub weighted-sum-step : (f : ℕ → ℕ) (k : ℕ) → weighted-sum f (k + 1) ≡ weighted-sum f k + (k + 1) * f k
-unfolding weighted-sum
-weighted-sum-step f k = ap (weighted-sum f) (add-one k)
+pub weighted-sum-step : (f : ℕ → ℕ) (k : ℕ) → position-weighted-sum f (k + 1) ≡ position-weighted-sum f k + (k + 1) * f k
+unfolding position-weighted-sum
+weighted-sum-step f k = ap (position-weighted-sum f) (add-one k)
 
 -- a term is at most 508 · 255
 pub term-bound : (k x : ℕ) → k < 508 → x < 256 → (k + 1) * x ≤ 129540
 term-bound k x h l = mul-le-mul {n₁ = k + 1} {m₁ = x} {n₂ = 508} {m₂ = 255} (omega arith) (omega arith)
 
-pub weighted-sum-bound : (n : ℕ) (f : ℕ → ℕ) → ((k : ℕ) → f k < 256) → n ≤ 508 → weighted-sum f n ≤ 129540 * n
-unfolding weighted-sum
+pub weighted-sum-bound : (n : ℕ) (f : ℕ → ℕ) → ((k : ℕ) → f k < 256) → n ≤ 508 → position-weighted-sum f n ≤ 129540 * n
+unfolding position-weighted-sum
 weighted-sum-bound zero f h l = omega arith
 weighted-sum-bound (suc n) f h l = omega (arith, weighted-sum-bound n f h (omega arith), term-bound n (f n) (omega arith) (h n))
 

@@ -13,7 +13,7 @@ use Rattle.frame.specs.declared.ReadAnswer.{ReadAnswer}
 use Rattle.frame.specs.declared.ReadAnswer.the-variants as Read
 use Rattle.frame.specs.Sites.{Frame, frame, side-allowed, phase-allowed}
 use Rattle.frame.specs.Calls.{answer-in-order, after}
-use Rattle.frame_file.specs.Lists.{part, joined, zeros, all-zero, same}
+use Rattle.frame_file.specs.Lists.{part, joined, zeros, all-zero, same-list}
 
 -- W, H and the phase of a frame
 abbrev pub shape-of : Frame → Shape
@@ -47,12 +47,12 @@ unfoldable pub block-number : List ℕ → ℕ
 block-number b = little-endian (part b 0 4)
 
 -- "the sum of (k+1) times byte k for k = 0..507": the same of the first n values of f
-unfoldable pub weighted-sum : (ℕ → ℕ) → ℕ → ℕ
-weighted-sum f zero = 0
-weighted-sum f (suc k) = weighted-sum f k + (k + 1) * f k
+unfoldable pub position-weighted-sum : (ℕ → ℕ) → ℕ → ℕ
+position-weighted-sum f zero = 0
+position-weighted-sum f (suc k) = position-weighted-sum f k + (k + 1) * f k
 
 unfoldable pub check : List ℕ → ℕ
-check b = weighted-sum (λ k. getD b k 0) 508
+check b = position-weighted-sum (λ k. getD b k 0) 508
 
 -- "Bytes 508..511: check, little-endian, the sum of (k+1) times byte k for k = 0..507."
 unfoldable pub stored-check : List ℕ → ℕ
@@ -63,7 +63,7 @@ unfoldable pub tag : List ℕ
 tag = 66 ∷ 65 ∷ 89 ∷ 82 ∷ []
 
 unfoldable pub has-tag : List ℕ → Bool
-has-tag b = same (part b 4 4) tag
+has-tag b = same-list (part b 4 4) tag
 
 -- "8..9 W, 10..11 H (little-endian), 12 phase,"
 unfoldable pub header : List ℕ → Shape
@@ -140,6 +140,7 @@ header-bytes shape =
 unfoldable pub sample-bytes : ℕ → List ℕ → List ℕ
 sample-bytes n samples = little-endian-bytes 4 n ++ (packed-payload samples ++ zeros 4)
 
+-- "The writer composes in a block that starts as 512 zero bytes.": what it does not fill is the zeros of the filler
 unfoldable pub written-block : Frame → ℕ → List ℕ
 written-block f zero = with-check (header-bytes (shape-of f))
 written-block f (suc n) = with-check (sample-bytes (suc n) (block-samples (f .samples) (suc n)))

@@ -228,24 +228,24 @@ unfolding all-zero
 all-zero-past l k h = rw (drop-of-length-le l h)
 
 -- ---- two lists are the same
-unfoldable pub same : List ℕ → List ℕ → Bool
-same [] [] = true
-same [] (y ∷ m) = false
-same (x ∷ l) [] = false
-same (x ∷ l) (y ∷ m) = eqb x y && same l m
+unfoldable pub same-list : List ℕ → List ℕ → Bool
+same-list [] [] = true
+same-list [] (y ∷ m) = false
+same-list (x ∷ l) [] = false
+same-list (x ∷ l) (y ∷ m) = eqb x y && same-list l m
 
-pub same-self : (l : List ℕ) → same l l ≡ true
-unfolding same
-same-self [] = refl
-same-self (x ∷ l) = rw (eqb-yes {m = x} {n = x} refl) (same-self l)
+pub same-list-self : (l : List ℕ) → same-list l l ≡ true
+unfolding same-list
+same-list-self [] = refl
+same-list-self (x ∷ l) = rw (eqb-yes {m = x} {n = x} refl) (same-list-self l)
 
-pub same-equal : (l m : List ℕ) → same l m ≡ true → l ≡ m
-unfolding same
-same-equal [] [] e = refl
-same-equal [] (y ∷ m) e = absurd (let z : _≡_ {A = ℕ} 0 1 = cc in omega arith)
-same-equal (x ∷ l) [] e = absurd (let z : _≡_ {A = ℕ} 0 1 = cc in omega arith)
-same-equal (x ∷ l) (y ∷ m) e =
-    let t = and-true (eqb x y) (same l m) e in ap₂ (λ (z : ℕ) (k : List ℕ). z ∷ k) (eqb-eq x y (t .0)) (same-equal l m (t .1))
+pub same-list-equal : (l m : List ℕ) → same-list l m ≡ true → l ≡ m
+unfolding same-list
+same-list-equal [] [] e = refl
+same-list-equal [] (y ∷ m) e = absurd (let z : _≡_ {A = ℕ} 0 1 = cc in omega arith)
+same-list-equal (x ∷ l) [] e = absurd (let z : _≡_ {A = ℕ} 0 1 = cc in omega arith)
+same-list-equal (x ∷ l) (y ∷ m) e =
+    let t = and-true (eqb x y) (same-list l m) e in ap₂ (λ (z : ℕ) (k : List ℕ). z ∷ k) (eqb-eq x y (t .0)) (same-list-equal l m (t .1))
 
 -- ---- every entry is below a bound
 abbrev pub Below : ℕ → List ℕ → Type 0

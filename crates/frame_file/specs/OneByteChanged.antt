@@ -14,7 +14,7 @@ use Rattle.frame.specs.declared.Refusal.the-variants.{Check}
 use Rattle.frame.specs.Sites.{Frame}
 use Rattle.frame.specs.Calls.{returned-by-read, Admitted}
 use Rattle.frame_file.specs.Lists.{part, length-part, getD-part, part-set-past, part-set-before, part-set-inside, Below, below-part, below-set}
-use Rattle.frame_file.specs.FrameFile.{sample-count, block, header, payload, block-count, file-length, little-endian, little-endian-bytes, weighted-sum, check, stored-check, check-holds, filler-holds, stored-frame, written-file, refused, reading, read-answer}
+use Rattle.frame_file.specs.FrameFile.{sample-count, block, header, payload, block-count, file-length, little-endian, little-endian-bytes, position-weighted-sum, check, stored-check, check-holds, filler-holds, stored-frame, written-file, refused, reading, read-answer}
 use Rattle.frame_file.specs.LittleEndian.{part-of-number}
 use Rattle.frame_file.specs.Check.{weighted-sum-cong, check-cong}
 use Rattle.frame_file.specs.ReadTests.{Passes, HeaderPasses, later-blocks-check, read-after-header, read-check-0}
@@ -23,8 +23,8 @@ use Rattle.frame_file.specs.WrittenFile.{payload-of-block, length-writte
 -- ---- the check of a block with one byte changed
 
 -- two sums that differ in one term at most are equal only where that term is
-weighted-sum-one : (n j : ℕ) (f g : ℕ → ℕ) → j < n → ((k : ℕ) → ¬ (k ≡ j) → f k ≡ g k) → weighted-sum f n ≡ weighted-sum g n → f j ≡ g j
-unfolding weighted-sum
+weighted-sum-one : (n j : ℕ) (f g : ℕ → ℕ) → j < n → ((k : ℕ) → ¬ (k ≡ j) → f k ≡ g k) → position-weighted-sum f n ≡ position-weighted-sum g n → f j ≡ g j
+unfolding position-weighted-sum
 weighted-sum-one zero j f g h others e = absurd (omega arith)
 weighted-sum-one (suc n) j f g h others e =
     ⊎-elim
@@ -35,15 +35,15 @@ weighted-sum-one (suc n) j f g h others e =
     below : j < suc n → j ≤ n
     below h = omega arith
 
-    same-front : j ≡ n → weighted-sum f n ≡ weighted-sum g n
+    same-front : j ≡ n → position-weighted-sum f n ≡ position-weighted-sum g n
     same-front q = weighted-sum-cong n f g (λ k l. others k (λ r. omega arith))
 
     last : j ≡ n → f n ≡ g n
     last q =
         eq-of-mul-eq-mul-left (n + 1) (omega arith) (f n) (g n)
-        (add-left-cancel (weighted-sum f n) (rw (same-front q) (rw (same-front q) at e)))
+        (add-left-cancel (position-weighted-sum f n) (rw (same-front q) (rw (same-front q) at e)))
 
-    front : j < n → weighted-sum f n ≡ weighted-sum g n
+    front : j < n → position-weighted-sum f n ≡ position-weighted-sum g n
     front q = add-right-cancel ((n + 1) * g n) (rw (others n (λ (r : n ≡ j). omega arith)) at e)
 
 module _ (b : List ℕ) (i v : ℕ) (size : length b ≡ 512) (bytes : Below 256 b) (small : v < 256) (other : ¬ (v ≡ getD b i 0)) where

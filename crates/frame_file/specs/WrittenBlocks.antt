@@ -8,7 +8,7 @@ use lib.ListN.{length, length-append}
 use Rattle.toolkit.specs.Tests.{eqb-yes}
 use Rattle.frame.specs.declared.Shape.{Shape}
 use Rattle.frame.specs.Sites.{Frame}
-use Rattle.frame_file.specs.Lists.{part, part-append, part-middle, zeros, length-zeros, all-zero, zeros-all-zero, same-self, Below, below-append, below-zeros}
+use Rattle.frame_file.specs.Lists.{part, part-append, part-middle, zeros, length-zeros, all-zero, zeros-all-zero, same-list-self, Below, below-append, below-zeros}
 use Rattle.frame_file.specs.FrameFile.{shape-of, little-endian, little-endian-bytes, tag, has-tag, header, header-filler, block-number, block-filler, block-samples, packed-payload, with-check, check-holds, number-holds, header-bytes, sample-bytes, written-block}
 use Rattle.frame_file.specs.LittleEndian.{length-little-endian-bytes, below-little-endian-bytes, number-of-bytes}
 use Rattle.frame_file.specs.Check.{length-with-check, with-check-holds}
@@ -52,7 +52,7 @@ module _ (shape : Shape) where
 
   pub header-has-tag : has-tag (with-check (header-bytes shape)) ≡ true
   unfolding has-tag part with-check header-bytes little-endian-bytes tag
-  header-has-tag = same-self tag
+  header-has-tag = same-list-self tag
 
   pub header-of-bytes : shape .width < 256 ^ 2 → shape .height < 256 ^ 2 → header (with-check (header-bytes shape)) ≡ shape
   unfolding header part with-check header-bytes little-endian-bytes tag

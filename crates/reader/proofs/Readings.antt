@@ -8,7 +8,7 @@ use native.Mathlib.Omega.{arith}
 use lib.Dec.{leb, eqb}
 use lib.ListN.{length, take, drop, length-take}
 use borrow.Author.Tests.{ne-eqb}
-use Rattle.toolkit.specs.Tests.{leb-le, leb-yes, leb-no, eqb-yes}
+use Rattle.toolkit.specs.Tests.{holds, leb-le, leb-yes, leb-no, eqb-yes}
 use Rattle.frame.specs.declared.Shape.{Shape}
 use Rattle.frame.specs.declared.Refusal.{Refusal}
 use Rattle.frame.specs.declared.Refusal.the-variants.{BufferLength, FileLength, Check, Header, BlockNumber, Filler}
@@ -18,9 +18,8 @@ use Rattle.frame.specs.declared.ReadAnswer.{ReadAnswer}
 use Rattle.frame.specs.declared.ReadAnswer.the-variants as Read
 use Rattle.frame.specs.Sites.{Frame}
 use Rattle.frame.specs.Calls.{tested}
-use Rattle.frame.specs.Admission.{and-true, refused-not-done, tested-done}
+use Rattle.frame.specs.Admission.{and-true, refused-not-done, tested-done, side-high}
 use Rattle.admission.specs.ShapeTest.{and-then}
-use Rattle.admission.specs.Allowed.{side-most}
 use Rattle.block.specs.BlockTest.{block-answer}
 use Rattle.frame_file.specs.Lists.{all-zero}
 use Rattle.frame_file.specs.FrameFile.{block, header, header-filler, sample-count, block-count, file-length, stored-samples, stored-frame, Reading, accepted, refused, length-allowed, check-holds, number-holds, header-allowed, filler-holds, later-blocks, reading, read-answer, samples-after-read}
@@ -99,7 +98,7 @@ first-passes file e =
     let long = and-true (leb 512 (length file)) _ (size .0) in
     let allowed = tested-done _ Header _ (and-then-done (block-answer (block file 0) 0) _ (size .1) .1) in
     let a = allowed-header (block file 0) (allowed .0) in
-    record { long = leb-le 512 (length file) (long .0); width = side-most _ (a .width-allowed); height = side-most _ (a .height-allowed) }
+    record { long = leb-le 512 (length file) (long .0); width = side-high (holds (a .width-allowed)); height = side-high (holds (a .height-allowed)) }
 
 pub sides-small : (file : List ℕ) → first-answer file ≡ Done → (shape : Shape) → shape ≡ header (block file 0)
     → (shape .width ≤ 4096) × (shape .height ≤ 4096)
