@@ -1,37 +1,20 @@
--- Document 01, "Glaze cases": a table of what the definitions give beside what the document says, proved by one computation.
--- Assumes nothing.
-use mathlib.Core.Path.{_≡_, refl, sym, _∙_, ap}
-use mathlib.Core.List.{List, [], _∷_, _++_, map}
+-- Document 01, "Glaze cases": K1 to K12, and the text of K1's frame, proved by one computation. Assumes nothing.
+use mathlib.Core.Path.{_≡_, refl}
+use mathlib.Core.List.{List, [], _∷_, _++_}
 use Prim.Native.Nat.{ℕ}
-use lib.IntN.{ℤ, pos, negsuc}
-use lib.ListN.{getD, List·getD-map}
+use lib.IntN.{pos, negsuc}
+use Rattle.cases.specs.Row.{site, takes, numbers, naturals, Case, all-given, all-told}
 use Rattle.toolkit.specs.Tables.{tabulate}
 use Rattle.toolkit.specs.Raster.{raster}
 use Rattle.toolkit.specs.Rounding.{round-half-up}
 use Rattle.frame.specs.Sites.{Frame, sample, highest-sample, red, green, blue, rggb, colour, reflect-once, reflect-times, reflect, around}
 use Rattle.frame.specs.Calls.{held}
 use Rattle.method.specs.Gradients.{FourDirections, mosaic, apart, taps, six-tap, six-tap-pair, eastbound, east-gradient, west-gradient, gradients, gradients-at}
-use Rattle.method.specs.Green.{Direction, horizontal, diagonal, line-estimate, horizontal-estimate, half, estimate, threshold, Outcome, strong-down, weak, outcome, first-pass, outcome-at, first-pass-or, green-or, less-eight, trial-difference, reach, sum-about, column-sum, horizontal-sum, vertical-sum, diagonal-sum, least-sum, second-pass, second-pass-at, green-at}
+use Rattle.method.specs.Green.{horizontal, diagonal, line-estimate, horizontal-estimate, half, estimate, threshold, strong-down, weak, outcome, first-pass, outcome-at, first-pass-or, green-or, less-eight, trial-difference, reach, sum-about, column-sum, horizontal-sum, vertical-sum, diagonal-sum, least-sum, second-pass, second-pass-at, green-at}
 use Rattle.method.specs.Planes.{inner-round, one-if-zero, count-zeros, weight, weights, times, sum-of-four, weighted-sum, total, weighted-mean, green-difference, straight, mean-two-off, fusion-share, fused, final-difference, corners, diagonally, corner-gradients, chroma-site-difference, colour-difference, green-quarters, quarters, final-round, output, plane}
 use Rattle.frame_file.specs.Lists.{zeros, joined}
 use Rattle.frame_file.specs.FrameFile as File
 use Rattle.printing.specs.Printing.{digits, decimal, numbers-line, heading, clamped-at, site-text, frame-text}
-
--- what a case speaks of: a number, an outcome of the first pass, a direction
-pub data Value : Type 0 where
-  number : ℤ → Value
-  site : Outcome → Value
-  takes : Direction → Value
-
-abbrev numbers : List ℤ → List Value
-numbers l = map number l
-
-abbrev naturals : List ℕ → List Value
-naturals l = map (λ n. number (pos n)) l
-
-pub record Case : Type 0 where
-  pub given : List Value
-  pub told : List Value
 
 abbrev four : {X : Type 0} → X → X → X → X → FourDirections X
 four e w s n = record { east = e; west = w; south = s; north = n }
@@ -44,7 +27,7 @@ small-frame = record { width = 2; height = 2; phase = 0; samples = 100 ∷ 40 �
 abbrev edge-row : List ℕ
 edge-row = 0 ∷ 0 ∷ 0 ∷ 0 ∷ 800 ∷ 800 ∷ 800 ∷ 800 ∷ []
 
-abbrev edge-frame : Frame
+abbrev pub edge-frame : Frame
 edge-frame = record {
   width = 8;
   height = 8;
@@ -61,8 +44,8 @@ document-text =
     ++ (49 ∷ 32 ∷ 48 ∷ 32 ∷ 49 ∷ 49 ∷ 49 ∷ 32 ∷ 54 ∷ 49 ∷ 32 ∷ 50 ∷ 49 ∷ 49 ∷ 10 ∷ [])
     ++ (49 ∷ 32 ∷ 49 ∷ 32 ∷ 49 ∷ 48 ∷ 48 ∷ 32 ∷ 53 ∷ 49 ∷ 32 ∷ 50 ∷ 48 ∷ 48 ∷ 10 ∷ [])
 
-pub cases : List Case
-cases =
+unfoldable pub glaze-cases : List Case
+glaze-cases =
     -- K1: the frame above, its red, green and blue planes
     record {
       given = numbers (plane small-frame red ++ plane small-frame green ++ plane small-frame blue);
@@ -105,13 +88,6 @@ cases =
     ∷ record { given = naturals (frame-text small-frame); told = naturals document-text }
     ∷ []
 
-pub all-cases : map (λ (c : Case). c .given) cases ≡ map (λ (c : Case). c .told) cases
-unfolding cases digits decimal numbers-line heading clamped-at site-text frame-text held highest-sample joined tabulate raster round-half-up sample rggb colour reflect-once reflect-times reflect around mosaic apart taps six-tap six-tap-pair eastbound east-gradient west-gradient gradients gradients-at line-estimate horizontal-estimate half estimate threshold outcome first-pass outcome-at green-or less-eight trial-difference reach sum-about column-sum horizontal-sum vertical-sum diagonal-sum least-sum second-pass second-pass-at green-at inner-round one-if-zero count-zeros weight weights times sum-of-four weighted-sum total weighted-mean green-difference straight mean-two-off fusion-share fused final-difference corners diagonally corner-gradients chroma-site-difference colour-difference green-quarters quarters final-round output plane zeros File.packed File.check File.position-weighted-sum File.little-endian-bytes
-all-cases = refl
-
--- each row, counted from 0
-pub one-case : (k : ℕ) → getD cases k (record { given = []; told = [] }) .given ≡ getD cases k (record { given = []; told = [] }) .told
-one-case k =
-    sym (List·getD-map (λ (c : Case). c .given) cases k (record { given = []; told = [] }))
-    ∙ (ap (λ (l : List (List Value)). getD l k []) all-cases
-    ∙ List·getD-map (λ (c : Case). c .told) cases k (record { given = []; told = [] }))
+pub glaze-cases-hold : all-given glaze-cases ≡ all-told glaze-cases
+unfolding glaze-cases digits decimal numbers-line heading clamped-at site-text frame-text held highest-sample joined tabulate raster round-half-up sample rggb colour reflect-once reflect-times reflect around mosaic apart taps six-tap six-tap-pair eastbound east-gradient west-gradient gradients gradients-at line-estimate horizontal-estimate half estimate threshold outcome first-pass outcome-at green-or less-eight trial-difference reach sum-about column-sum horizontal-sum vertical-sum diagonal-sum least-sum second-pass second-pass-at green-at inner-round one-if-zero count-zeros weight weights times sum-of-four weighted-sum total weighted-mean green-difference straight mean-two-off fusion-share fused final-difference corners diagonally corner-gradients chroma-site-difference colour-difference green-quarters quarters final-round output plane zeros File.packed File.check File.position-weighted-sum File.little-endian-bytes
+glaze-cases-hold = refl

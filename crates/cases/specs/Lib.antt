@@ -1,1 +1,5 @@
+pub mod Row
 pub mod GlazeCases
+pub mod StagedPlanes
+pub mod FrameCases
+pub mod Table
