@@ -1,0 +1,4 @@
+pub mod Rows
+pub mod GradientRow
+pub mod EnhanceRow
+pub mod DiagonalRow

@@ -1,0 +1,23 @@
+-- What E of row i is formed from, and what is stored. Definitions alone. Assumes nothing.
+use mathlib.Core.List.{List}
+use Prim.Native.Nat.{ℕ, _+_, _*_, _<_}
+use lib.IntN.{ℤ, pos}
+use Rattle.toolkit.specs.Writes.{Wrote}
+use Rattle.frame.specs.Sites.{Frame, frame}
+use Rattle.frame.specs.declared.Shape.{Shape}
+use Rattle.positions.specs.Taken.{Taken}
+use Rattle.records.specs.Layout.{record-size}
+use Rattle.records.specs.Quantities.{east-entry}
+use Rattle.mosaic_rows.specs.LoadedRows.{Seven}
+
+-- the rows i − 2 to i + 4
+pub record East-reads (f : Frame) (i : ℕ) (rows : List ℕ) : Type 0 where
+  pub taken : Taken f
+  pub inside : i < f .height
+  pub seven : Seven f (i + 2) rows
+
+abbrev pub East-stored : Frame → ℕ → List ℤ → List ℤ → Type 0
+East-stored f i old new = Wrote (pos 0) (i * record-size (f .width)) (f .width + 2) (east-entry f i) old new
+
+pub record East-stores (shape : Shape) (i : ℕ) (rows : List ℕ) (old new : List ℤ) : Type 0 where
+  pub row : (zs : List ℕ) → East-reads (frame shape zs) i rows → East-stored (frame shape zs) i old new

@@ -1,0 +1,130 @@
+// The first pass at the red and blue sites of a row.
+ghost use mathlib.Core.Path.{_≡_};
+ghost use Prim.Native.Nat.{ℕ, _+_, _*_, _-_, _<_, _≤_};
+ghost use lib.IntN.{pos, natAbs};
+ghost use lib.ListN.{length};
+ghost use Rattle.toolkit.specs.Entries.{Entries};
+ghost use Rattle.toolkit.specs.Writes.{Wrote};
+ghost use Rattle.method.specs.Four.{directions, sizes};
+ghost use Rattle.method.specs.Sizes.{Naturals};
+ghost use Rattle.method.specs.Green.{vertical, diagonal, first-pass};
+ghost use Rattle.first_pass.specs.Lines.{line-difference, across-difference, down-difference, Small-rows};
+ghost use Rattle.first_pass.specs.Outcomes.{outcome-of, settled};
+ghost use Rattle.first_pass.specs.Trials.{site-trial, Trial-reads};
+
+// What the first pass answers of a site.
+pub enum FirstPass {
+    Equal,
+    Across,
+    Down,
+    Weak,
+}
+
+// An estimate less 8·X: from X, the greens on both sides, and the Xs two off.
+fn line(x: u16, g1: u16, g2: u16, x1: u16, x2: u16) -> i32
+    requires { ⌜ (x ≤ 1023) × (g1 ≤ 1023) × (g2 ≤ 1023) × (x1 ≤ 1023) × (x2 ≤ 1023) ⌝ }
+    ensures { λ r. ⌜ r ≡ line-difference x g1 g2 x1 x2 ⌝ }
+{
+    4 * (g1 as i32 + g2 as i32) - 4 * x as i32 - 2 * (x1 as i32 + x2 as i32)
+}
+
+// gH and gV less 8·X at the columns c, c + 2, .. of the row at place 2: half rows a and b.
+pub fn line_row(
+    rows: &[u16; 32896],
+    c: usize,
+    a: &mut [i32; 2064],
+    b: &mut [i32; 2064],
+    count: usize,
+)
+    requires { ⌜ (c ≤ 1) × (count ≤ 2048) × (length (now a) ≡ 2064) × (length (now b) ≡ 2064) ⌝ }
+    requires { ⌜ Small-rows (c + 2 * count + 9) (now rows) ⌝ }
+    ensures { λ _. ⌜ Entries (pos 0) 2064 4 (count + 4)
+        (λ (x : ℕ). across-difference (now (rows .entry)) (c + 2 * (x - 4) + 8)) (now (a .exit)) ⌝ }
+    ensures { λ _. ⌜ Entries (pos 0) 2064 4 (count + 4)
+        (λ (x : ℕ). down-difference (now (rows .entry)) (c + 2 * (x - 4) + 8)) (now (b .exit)) ⌝ }
+{
+    let mut k = 0;
+    while k < count {
+        let j = c + 2 * k + 8;
+        let here = 8224 + j;
+        let x = rows[here];
+        a[k + 4] = line(
+            x,
+            rows[here - 1],
+            rows[here + 1],
+            rows[here - 2],
+            rows[here + 2],
+        );
+        b[k + 4] = line(x, rows[4112 + j], rows[12336 + j], rows[j], rows[16448 + j]);
+        k += 1;
+    }
+}
+
+// The first pass's answer, from the four gradients.
+pub fn decide(g: [i64; 4]) -> FirstPass
+    requires { ⌜ Naturals 40920 g ⌝ }
+    ensures { λ r. ⌜ outcome-of r ≡ first-pass (sizes (directions g)) ⌝ }
+{
+    let h = g[0] as u32 + g[1] as u32;
+    let v = g[2] as u32 + g[3] as u32;
+    if h == v {
+        return FirstPass::Equal;
+    }
+    if h < v {
+        if 17 * h < 10 * v {
+            return FirstPass::Across;
+        }
+        return FirstPass::Weak;
+    }
+    if 17 * v < 10 * h {
+        return FirstPass::Down;
+    }
+    FirstPass::Weak
+}
+
+// A direction's difference: that of the first pass, and its own at a weak site.
+fn settle(o: FirstPass, a: i32, b: i32, own: i32) -> i32
+    requires { ⌜ (natAbs a ≤ 8184) × (natAbs b ≤ 8184) ⌝ }
+    ensures { λ r. ⌜ r ≡ settled o a b own ⌝ }
+{
+    match o {
+        FirstPass::Equal => (a + b) >> 1,
+        FirstPass::Across => a,
+        FirstPass::Down => b,
+        FirstPass::Weak => own,
+    }
+}
+
+// r_D and r_V of a row of sites, stored from entry at on.
+pub fn trial_row(
+    work: &[i32],
+    east: usize,
+    south: usize,
+    n: &[i32; 2064],
+    a: &[i32; 2064],
+    b: &[i32; 2064],
+    at: usize,
+    diagonals: &mut [i32],
+    verticals: &mut [i32],
+    count: usize,
+)
+    requires { ⌜ Trial-reads east south count (now work) (now n) (now a) (now b) ⌝ }
+    requires { ⌜ (at + count ≤ length (now diagonals)) × (length (now diagonals) ≤ 16777216)
+        × (length (now verticals) ≡ length (now diagonals)) ⌝ }
+    ensures { λ _. ⌜ Wrote (pos 0) at count
+        (site-trial diagonal (now (work .entry)) east south (now (n .entry)) (now (a .entry)) (now (b .entry)))
+        (now (diagonals .entry)) (now (diagonals .exit)) ⌝ }
+    ensures { λ _. ⌜ Wrote (pos 0) at count
+        (site-trial vertical (now (work .entry)) east south (now (n .entry)) (now (a .entry)) (now (b .entry)))
+        (now (verticals .entry)) (now (verticals .exit)) ⌝ }
+{
+    let mut k = 0;
+    while k < count {
+        let o = decide(half_rows::four(work, east, south, n, k));
+        let x = a[k + 4];
+        let y = b[k + 4];
+        diagonals[at + k] = settle(o, x, y, (x + y) >> 1);
+        verticals[at + k] = settle(o, x, y, y);
+        k += 1;
+    }
+}

@@ -1,0 +1,110 @@
+-- `first_stage::trial_line` meets its contract. What is read and what is stored, for any frame (`trial-reads`, `trials-stored`). Assumes nothing.
+use mathlib.Core.Path.{sym, _∙_}
+use native.Mathlib.Omega.{arith}
+use Rattle.frame.specs.Sites.{frame}
+use Rattle.method.specs.Green.{vertical, diagonal}
+use Rattle.positions.specs.HalfRowLaws.{count-high}
+use Rattle.half_rows.specs.SiteGradients.{north-room}
+use Rattle.first_stage.specs.TrialRows.{start-low, plane-room, lines-small, trial-reads, trials-stored}
+use borrow.Author.Needs.{needs}
+use Rattle.first_stage.proofs.trial_line.Statement.{statement}
+use Rattle.first_stage.proofs.trial_line.Tie as tie
+
+half-count-requires : tie.Need-half-count-requires
+half-count-requires c κs =
+    let r = c .pre .0 .holds in
+    (r .lent .taken .wide, r .lent .taken .narrow, start-low _ _ _ _ _ _ r)
+
+record-at-requires : tie.Need-record-at-requires
+record-at-requires c κs = search needs
+
+south-at-requires : tie.Need-south-at-requires
+south-at-requires c κs = search needs
+
+mul-at : tie.Need-mul-at
+mul-at c = search needs
+
+line-row-requires : tie.Need-line-row-requires
+line-row-requires c κs =
+    let start = c .before .before .before .before .before in
+    let r = start .pre .0 .holds in
+    let count = c .before .before .before .before .half-count .ensures in
+    ((start-low _ _ _ _ _ _ r, count .2, start .pre .1 .0 .1, start .pre .1 .0 .2), lines-small _ _ _ _ _ _ _ r (count .0))
+
+north-requires : tie.Need-north-requires
+north-requires c κs =
+    let after-count = c .before .before .before .before .before .before in
+    let start = after-count .before in
+    let args = start .args in
+    let count = after-count .half-count .ensures in
+    north-room (frame (args .shape) (start .pre .0 .samples)) (args .i) 0 _ _ _ _ (start .pre .0 .holds .lent)
+    (omega (arith, count .0, count-high (args .shape .width) (args .c))) (count .2) (start .pre .1 .0 .0)
+
+trial-row-requires : tie.Need-trial-row-requires
+trial-row-requires c κs =
+    let after-north = c .before .before .before .before .before in
+    let after-lines = after-north .before .before in
+    let after-south = after-lines .before .before .before in
+    let after-east = after-south .before in
+    let after-count = after-east .before in
+    let start = after-count .before in
+    let args = start .args in
+    let r = start .pre .0 .holds in
+    let count = after-count .half-count .ensures .0 in
+    let lines = after-lines .line-row .ensures in
+    let planes = start .pre .1 .1 in
+    let room = plane-room (frame (args .shape) (start .pre .0 .samples)) (args .i) (args .c) _ (args .diagonals .now) (r .lent .taken)
+    (r .lent .inside) count (planes .0) in (
+      trial-reads (frame (args .shape) (start .pre .0 .samples)) (args .i) (args .c) _ _ _ _ _ _ _ _ _ r count
+          (after-east .record-at .ensures .0) (after-south .south-at .ensures) (after-north .north .ensures) (lines .0) (lines .1),
+      (room .0, room .1, planes .1 ∙ sym (planes .0)),
+    )
+
+same-length : tie.Need-same-length
+same-length c = search needs
+
+same-length-2 : tie.Need-same-length-2
+same-length-2 c = search needs
+
+returns : tie.Need-returns
+returns c =
+    let after-trials = c .before .before in
+    let after-north = after-trials .before .before .before .before .before .before in
+    let after-lines = after-north .before .before in
+    let after-south = after-lines .before .before .before in
+    let after-east = after-south .before in
+    let after-count = after-east .before in
+    let args = after-count .before .args in
+    let count = after-count .half-count .ensures .0 in
+    let east = after-east .record-at .ensures .0 in
+    let south = after-south .south-at .ensures in
+    let lines = after-lines .line-row .ensures in
+    let norths = after-north .north .ensures in
+    let stored = after-trials .trial-row .ensures in (
+      record {
+        row = λ zs r. trials-stored (frame (args .shape) zs) (args .i) (args .c) _ _ _ _ _ _ _ _ _ r count east south norths
+            (lines .0) (lines .1) diagonal (stored .0);
+      },
+      (
+        record {
+          row = λ zs r. trials-stored (frame (args .shape) zs) (args .i) (args .c) _ _ _ _ _ _ _ _ _ r count east south norths
+              (lines .0) (lines .1) vertical (stored .1);
+        },
+        (norths .size, lines .0 .size, lines .1 .size),
+      ),
+    )
+
+pub trial-line-spec : {M : Type 1} → statement M
+trial-line-spec =
+    tie.close
+    (tie.spec
+    half-count-requires
+    record-at-requires
+    south-at-requires
+    mul-at
+    line-row-requires
+    north-requires
+    trial-row-requires
+    same-length
+    same-length-2
+    returns)

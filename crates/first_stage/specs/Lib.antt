@@ -1,0 +1,3 @@
+pub mod FirstStage
+pub mod GradientRows
+pub mod TrialRows

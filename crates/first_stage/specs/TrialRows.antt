@@ -1,0 +1,116 @@
+-- What `trial_row` reads and stores, for the frame whose rows are loaded. Assumes nothing.
+use mathlib.Core.Path.{_≡_, refl, sym, _∙_, ap}
+use mathlib.Core.List.{List}
+use Prim.Native.Nat.{ℕ, _+_, _*_, _-_, _<_, _≤_}
+use native.Mathlib.Omega.{arith}
+use lib.IntN.{ℤ, pos, natAbs}
+use lib.ListN.{length, getD}
+use Rattle.toolkit.specs.Entries.{Entries}
+use Rattle.toolkit.specs.Writes.{Wrote, wrote-as}
+use Rattle.frame.specs.Sites.{Frame}
+use Rattle.method.specs.Gradients.{mosaic, gradients-at}
+use Rattle.method.specs.Four.{directions, sizes, listed}
+use Rattle.method.specs.Sizes.{listed-naturals}
+use Rattle.method.specs.Green.{Direction}
+use Rattle.positions.specs.HalfRows.{half-count, chroma-count, chroma-row}
+use Rattle.positions.specs.HalfRowLaws.{count-column, count-high, count-most, chroma-small}
+use Rattle.positions.specs.Places.{area, row-end}
+use Rattle.positions.specs.Taken.{Taken}
+use Rattle.records.specs.Layout.{record-size, south-part}
+use Rattle.records.specs.Quantities.{trials}
+use Rattle.records.specs.Stages.{Chroma-stored}
+use Rattle.half_rows.specs.Sources.{north-entry, four-entries}
+use Rattle.half_rows.specs.Near.{chroma-count-is}
+use Rattle.half_rows.specs.SiteGradients.{gradients-most, record-end, work-most, site-gradients-first}
+use Rattle.first_pass.specs.Lines.{across-difference, down-difference, Small-rows, across-reads, down-reads, line-size}
+use Rattle.first_pass.specs.Trials.{tried, site-trial, Trial-reads}
+use Rattle.first_pass.specs.FrameTrials.{loaded-small, across-of, down-of, trial-is}
+use Rattle.first_stage.specs.FirstStage.{Trials-read}
+
+pub start-low : (f : Frame) (i c : ℕ) (rows : List ℕ) (tops work : List ℤ) → Trials-read f i c rows tops work → c ≤ 1
+start-low f i c rows tops work r = rw (r .start) (chroma-small (f .phase) i)
+
+-- row i lies in its plane
+pub plane-room : (f : Frame) (i c count : ℕ) (plane : List ℤ) → Taken f → i < f .height → count ≡ half-count (f .width) c
+    → length plane ≡ f .height * f .width → (i * f .width + count ≤ length plane) × (length plane ≤ 16777216)
+plane-room f i c count plane t h e p = (
+  omega (arith, row-end (f .height) (f .width) i h, count-high (f .width) c),
+  omega (arith, area (f .height) (f .width) (t .low) (t .narrow)),
+)
+
+-- the rows that the lines read
+pub lines-small : (f : Frame) (i c count : ℕ) (rows : List ℕ) (tops work : List ℤ) → Trials-read f i c rows tops work
+    → count ≡ half-count (f .width) c → Small-rows (c + 2 * count + 9) rows
+unfolding half-count
+lines-small f i c count rows tops work r e =
+    loaded-small f (i + 2) (c + 2 * count + 9) rows (r .lent .taken) (r .seven)
+    (omega (arith, r .lent .taken .wide, r .start, chroma-small (f .phase) i))
+
+module _ (f : Frame) (i c count east south : ℕ) (rows : List ℕ) (tops work n a b : List ℤ) (r : Trials-read f i c rows tops work)
+    (ec : count ≡ half-count (f .width) c) (ee : east ≡ i * record-size (f .width))
+    (es : south ≡ i * record-size (f .width) + south-part (f .width))
+    (norths-row : Entries (pos 0) 2064 4 (count + 4) (λ (x : ℕ). north-entry tops work (f .width) i (0 + (x - 4))) n)
+    (across-row : Entries (pos 0) 2064 4 (count + 4) (λ (x : ℕ). across-difference rows (c + 2 * (x - 4) + 8)) a)
+    (down-row : Entries (pos 0) 2064 4 (count + 4) (λ (x : ℕ). down-difference rows (c + 2 * (x - 4) + 8)) b) where
+  count-is : count ≡ chroma-count f i
+  count-is = ec ∙ chroma-count-is f i c (r .start)
+
+  module _ (k : ℕ) (inside : k < count) where
+    column-inside : c + 2 * k < f .width
+    column-inside = count-column (f .width) c k (start-low f i c rows tops work r) (omega arith)
+
+    four-is : four-entries work east south n k ≡ listed (gradients-at (mosaic f) i (c + 2 * k))
+    four-is =
+        site-gradients-first f i tops work (r .gradients) n east south count 0 k ee es count-is refl norths-row (omega (arith, count-is))
+        ∙ ap (λ (x : ℕ). listed (gradients-at (mosaic f) i (x + 2 * k))) (sym (r .start))
+
+    across-at : getD a (k + 4) (pos 0) ≡ across-difference rows (c + 2 * k + 8)
+    across-at =
+        let back : k + 4 - 4 ≡ k = omega arith in
+        across-row .at (k + 4) (omega arith) (omega arith) ∙ ap (λ (x : ℕ). across-difference rows (c + 2 * x + 8)) back
+
+    down-at : getD b (k + 4) (pos 0) ≡ down-difference rows (c + 2 * k + 8)
+    down-at =
+        let back : k + 4 - 4 ≡ k = omega arith in
+        down-row .at (k + 4) (omega arith) (omega arith) ∙ ap (λ (x : ℕ). down-difference rows (c + 2 * x + 8)) back
+
+    across-size : natAbs (getD a (k + 4) (pos 0)) ≤ 8184
+    across-size =
+        let s = across-reads (c + 2 * count + 9) (c + 2 * k + 8) rows (lines-small f i c count rows tops work r ec) (omega arith) (omega arith) in
+        rw across-at (line-size _ _ _ _ _ (s .0) (s .1) (s .2) (s .3) (s .4))
+
+    down-size : natAbs (getD b (k + 4) (pos 0)) ≤ 8184
+    down-size =
+        let s = down-reads (c + 2 * count + 9) (c + 2 * k + 8) rows (lines-small f i c count rows tops work r ec) (omega arith) in
+        rw down-at (line-size _ _ _ _ _ (s .0) (s .1) (s .2) (s .3) (s .4))
+
+    trial-at : (d : Direction) → site-trial d work east south n a b k ≡ chroma-row f (trials f d) i k
+    unfolding chroma-row trials
+    trial-at d =
+        ap (λ (g : List ℤ). tried d (sizes (directions g)) (getD a (k + 4) (pos 0)) (getD b (k + 4) (pos 0))) four-is
+        ∙ (same (across-at ∙ across-of f i (c + 2 * k) rows (r .seven) column-inside)
+        (down-at ∙ down-of f i (c + 2 * k) rows (r .seven) column-inside)
+        ∙ (trial-is f d i (c + 2 * k) (r .lent .taken) (r .lent .inside) column-inside
+        ∙ ap (λ (x : ℕ). trials f d i (x + 2 * k)) (r .start)))
+      where
+        same : {x y u v : ℤ} → x ≡ u → y ≡ v
+            → tried d (gradients-at (mosaic f) i (c + 2 * k)) x y ≡ tried d (gradients-at (mosaic f) i (c + 2 * k)) u v
+        same p q = rw (p, q)
+
+  pub trial-reads : Trial-reads east south count work n a b
+  trial-reads =
+      let end = record-end f i tops work (r .lent) in
+      let wide = r .lent .taken .wide in
+      record {
+        few = omega (arith, count-most (f .width) c (r .lent .taken .narrow));
+        east-inside = omega (arith, end, wide, count-high (f .width) c);
+        south-inside = omega (arith, end, wide, count-high (f .width) c);
+        work-most = work-most f i tops work (r .lent);
+        gradients = λ k h. listed-naturals (gradients-at (mosaic f) i (c + 2 * k)) (four-is k h) (gradients-most f i (c + 2 * k) (r .lent .taken));
+        across-small = across-size;
+        down-small = down-size;
+      }
+
+  pub trials-stored : (d : Direction) {old new : List ℤ} → Wrote (pos 0) (i * f .width) count (site-trial d work east south n a b) old new
+      → Chroma-stored f (trials f d) i old new
+  trials-stored d w = wrote-as w count-is (λ k h. trial-at k h d)

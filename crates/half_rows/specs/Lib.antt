@@ -1,0 +1,6 @@
+pub mod Sources
+pub mod Reading
+pub mod Mirror
+pub mod Norths
+pub mod Near
+pub mod SiteGradients

@@ -1,0 +1,4 @@
+pub mod Naturals
+pub mod Products
+pub mod Zeros
+pub mod Lifts

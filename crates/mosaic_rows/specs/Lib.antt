@@ -1,0 +1,3 @@
+pub mod LoadedRows
+pub mod EdgeLaws
+pub mod LoadLaws

@@ -1,0 +1,49 @@
+// Positions: reflection outside a line, and the columns of a half row.
+ghost use mathlib.Core.Path.{_≡_};
+ghost use Prim.Native.Nat.{_<_, _≤_};
+ghost use lib.IntN.{pos, subℕ};
+ghost use Rattle.frame.specs.Sites.{reflect};
+ghost use Rattle.positions.specs.HalfRows.{chroma-start, half-count};
+
+// Position x of a line of n, reflected.
+pub fn reflected(n: usize, x: usize) -> usize
+    requires { ⌜ (2 ≤ n) × (n ≤ 4096) ⌝ }
+    ensures { λ r. ⌜ (r ≡ reflect n (pos x)) × (r < n) ⌝ }
+{
+    if x < n {
+        return x;
+    }
+    let period = 2 * (n - 1);
+    let m = x % period;
+    if m < n {
+        return m;
+    }
+    period - m
+}
+
+// Position x − d of a line of n, reflected.
+pub fn reflected_less(n: usize, x: usize, d: usize) -> usize
+    requires { ⌜ (2 ≤ n) × (n ≤ 4096) ⌝ }
+    ensures { λ r. ⌜ (r ≡ reflect n (subℕ x d)) × (r < n) ⌝ }
+{
+    if d <= x {
+        return reflected(n, x - d);
+    }
+    reflected(n, d - x)
+}
+
+// The first red or blue column of row i.
+pub fn first_chroma(phase: usize, i: usize) -> usize
+    requires { ⌜ (phase ≤ 3) × (i ≤ 4096) ⌝ }
+    ensures { λ r. ⌜ (r ≡ chroma-start phase i) × (r ≤ 1) ⌝ }
+{
+    (i + phase / 2 + phase % 2) % 2
+}
+
+// How many of the columns c, c + 2, .. a row of w has.
+pub fn half_count(w: usize, c: usize) -> usize
+    requires { ⌜ (2 ≤ w) × (w ≤ 4096) × (c ≤ 1) ⌝ }
+    ensures { λ r. ⌜ (r ≡ half-count w c) × (1 ≤ r) × (r ≤ 2048) ⌝ }
+{
+    (w + 1 - c) / 2
+}

@@ -1,0 +1,10 @@
+-- What the rows of a buffer hold. Definitions alone. Assumes nothing.
+use mathlib.Core.Path.{_≡_}
+use mathlib.Core.List.{List}
+use Prim.Native.Nat.{ℕ, _+_, _*_, _<_, _≤_}
+use lib.IntN.{ℤ, pos}
+use lib.ListN.{getD}
+
+-- the rows from lo to hi − 1 hold q: row r stands from r·s + o on, and has n r entries
+pub record Held (s o : ℕ) (n : ℕ → ℕ) (lo hi : ℕ) (q : ℕ → ℕ → ℤ) (buffer : List ℤ) : Type 0 where
+  pub row : (r : ℕ) → lo ≤ r → r < hi → (k : ℕ) → k < n r → getD buffer (r * s + o + k) (pos 0) ≡ q r k

@@ -1,0 +1,9 @@
+pub mod Held
+pub mod Layout
+pub mod Quantities
+pub mod Stages
+pub mod Turns
+pub mod TurnLaws
+pub mod GradientAlike
+pub mod Neighbours
+pub mod SiteColours

@@ -1,0 +1,55 @@
+-- The quantities that the buffers hold, site by site and as a record keeps them. Definitions alone. Assumes nothing.
+use mathlib.Core.Bool.{cond}
+use Prim.Native.Nat.{ℕ, _+_, _*_, _-_}
+use lib.Dec.{ltb}
+use lib.IntN.{ℤ, pos}
+use Rattle.frame.specs.Sites.{Frame, Colour, red, green, blue}
+use Rattle.method.specs.Gradients.{Mosaic, mosaic, gradients-at}
+use Rattle.method.specs.Green.{Direction, trial-difference}
+use Rattle.method.specs.Planes.{green-difference, final-difference, chroma-site-difference, output}
+use Rattle.positions.specs.HalfRows.{chroma-start, chroma-count, in-halves}
+use Rattle.records.specs.Layout.{south-part}
+
+-- W, S and N at every site; E(i,j) is W(i,j + 2)
+unfoldable pub wests : Frame → ℕ → ℕ → ℤ
+wests f i j = pos (gradients-at (mosaic f) i j .west)
+
+unfoldable pub souths : Frame → ℕ → ℕ → ℤ
+souths f i j = pos (gradients-at (mosaic f) i j .south)
+
+unfoldable pub norths : Frame → ℕ → ℕ → ℤ
+norths f i j = pos (gradients-at (mosaic f) i j .north)
+
+-- entry k of E as a record keeps it, from two columns west on: E(i,j − 2) is W(i,j). One entry more than sites in each half
+unfoldable pub east-entry : Frame → ℕ → ℕ → ℤ
+east-entry f i k =
+    cond (ltb k (chroma-count f i + 1)) (wests f i (chroma-start (f .phase) i + 2 * k))
+    (wests f i (1 - chroma-start (f .phase) i + 2 * (k - (chroma-count f i + 1))))
+
+-- E, and S behind it
+unfoldable pub gradient-entry : Frame → ℕ → ℕ → ℤ
+gradient-entry f i k = cond (ltb k (south-part (f .width))) (east-entry f i k) (in-halves f (souths f) i (k - south-part (f .width)))
+
+-- r_k, D, and the final difference of the red and blue sites
+unfoldable pub trials : Frame → Direction → ℕ → ℕ → ℤ
+trials f k = trial-difference (mosaic f) k
+
+unfoldable pub greens : Frame → ℕ → ℕ → ℤ
+greens f = green-difference (mosaic f)
+
+unfoldable pub finals : Frame → ℕ → ℕ → ℤ
+finals f = final-difference (mosaic f)
+
+-- of red and blue, the one that a site does not measure
+abbrev pub opposite : Colour → Colour
+opposite red = blue
+opposite green = green
+opposite blue = red
+
+-- green minus the other colour at a red or blue site
+unfoldable pub others : Frame → ℕ → ℕ → ℤ
+others f i j = chroma-site-difference (mosaic f) (opposite (mosaic f .colour-at i j)) i j
+
+-- the three numbers
+unfoldable pub outputs : Frame → Colour → ℕ → ℕ → ℤ
+outputs f c = output (mosaic f) c

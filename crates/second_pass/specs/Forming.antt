@@ -1,0 +1,86 @@
+-- The half rows of r_H, r_V and r_D, as the code forms them. Assumes nothing.
+use mathlib.Core.Path.{_≡_, refl, _∙_, ap, ap₂}
+use mathlib.Core.List.{List}
+use Prim.Native.Nat.{ℕ, _+_, _*_, _-_, _≤_, min}
+use native.Mathlib.Omega.{arith}
+use lib.IntN.{ℤ, pos, _-ℤ_, _*ℤ_}
+use lib.ListN.{getD}
+use Rattle.toolkit.specs.Entries.{Entries, entries-as}
+use Rattle.frame.specs.Sites.{Frame}
+use Rattle.method.specs.Green.{Direction, horizontal, vertical, diagonal}
+use Rattle.positions.specs.Columns.{column-at}
+use Rattle.positions.specs.HalfRows.{chroma-start, half-count, chroma-count, Half}
+use Rattle.positions.specs.HalfRowLaws.{chroma-small}
+use Rattle.records.specs.Quantities.{trials}
+use Rattle.records.specs.Stages.{Second-reads}
+use Rattle.half_rows.specs.Sources.{source-entry}
+use Rattle.half_rows.specs.Mirror.{mirrored}
+use Rattle.half_rows.specs.Near.{chroma-count-is, half-of-row}
+use Rattle.sums.specs.Sums.{Held-near, Sums-read, Sized}
+use Rattle.sums.specs.Sizes.{sized-as, row-sized}
+use Rattle.sums.specs.Room.{row-place}
+use Rattle.second_pass.specs.Picked.{across-entry}
+use Rattle.second_pass.specs.Across.{across-is}
+
+module _ (f : Frame) (i c count : ℕ) (diagonals verticals : List ℤ) (read : Second-reads f i diagonals verticals)
+    (ec : c ≡ chroma-start (f .phase) i) (en : count ≡ half-count (f .width) c) where
+  abbrev Copied : List ℤ → List ℤ → Type 0
+  Copied plane row = Entries (pos 0) 2064 4 (count + 4) (λ (x : ℕ). getD plane (i * f .width + (x - 4)) (pos 0)) row
+
+  -- row i lies in a plane
+  pub row-here : (i * f .width + count ≤ f .height * f .width) × (f .height * f .width ≤ 16777216)
+  row-here = row-place read (en ∙ chroma-count-is f i c ec) i (read .inside)
+
+  -- row i of a plane of r_k
+  copied-half : (k : Direction) (plane row : List ℤ) → Held-near f i (trials f k) plane → Copied plane row
+      → Half (f .width) c 4 (half-count (f .width) c + 4) (trials f k i) row
+  copied-half k plane row held copied =
+      half-of-row f (f .width) 0 (i - 8) (min (i + 9) (f .height)) (trials f k) plane (read .taken .wide) held i c (i * f .width) count row
+      (omega arith) (omega (arith, read .inside)) ec en (omega arith) copied
+
+  -- its numbers are small
+  pub copied-sized : (k : Direction) (plane row : List ℤ) → Held-near f i (trials f k) plane → Copied plane row → Sized 32760 4 (count + 4) row
+  copied-sized k plane row held copied =
+      sized-as (row-sized f (read .taken) k c i row (read .inside) (copied-half k plane row held copied)) (omega arith) (omega arith) (omega arith)
+
+  -- told by the frame's start and count
+  half-told : (lo a b : ℕ) (q : ℕ → ℤ) (row : List ℤ) → Half (f .width) c lo (half-count (f .width) c + a) q row → b ≡ a
+      → Half (f .width) (chroma-start (f .phase) i) lo (chroma-count f i + b) q row
+  half-told lo a b q row h e =
+      let n = chroma-count-is f i c ec in
+      entries-as h (omega arith) (omega arith) (λ x l u. ap (λ (y : ℕ). q (column-at (f .width) (y + 2 * x))) ec)
+
+  module _ (ph₀ ph pv pd₀ pd : List ℤ) (diagonals-copied : Copied diagonals pd₀) (verticals-copied : Copied verticals pv)
+      (across : Entries (pos 0) 2064 4 (count + 4) (across-entry pd₀ pv) ph₀)
+      (ph-mirrored : Entries (pos 0) 2064 (4 - 4) (half-count (f .width) c + 4 + 4)
+      (λ (x : ℕ). getD ph₀ (source-entry (f .width) c x) (pos 0)) ph)
+      (pd-mirrored : Entries (pos 0) 2064 (4 - 4) (half-count (f .width) c + 4 + 4)
+      (λ (x : ℕ). getD pd₀ (source-entry (f .width) c x) (pos 0)) pd) where
+    both-half : Half (f .width) c 4 (half-count (f .width) c + 4) (trials f diagonal i) pd₀
+    both-half = copied-half diagonal diagonals pd₀ (read .diagonals-held) diagonals-copied
+
+    down-half : Half (f .width) c 4 (half-count (f .width) c + 4) (trials f vertical i) pv
+    down-half = copied-half vertical verticals pv (read .verticals-held) verticals-copied
+
+    across-half : Half (f .width) c 4 (half-count (f .width) c + 4) (trials f horizontal i) ph₀
+    unfolding across-entry
+    across-half = entries-as across (omega arith) (omega arith) (λ x a b.
+        ap₂ (λ (d v : ℤ). pos 2 *ℤ d -ℤ v) (both-half .at x a b) (down-half .at x a b) ∙ across-is f i (column-at (f .width) (c + 2 * x)))
+
+    small : c ≤ 1
+    small = rw ec (chroma-small (f .phase) i)
+
+    whole : (k : Direction) (old row : List ℤ) → Half (f .width) c 4 (half-count (f .width) c + 4) (trials f k i) old
+        → Entries (pos 0) 2064 (4 - 4) (half-count (f .width) c + 4 + 4) (λ (x : ℕ). getD old (source-entry (f .width) c x) (pos 0)) row
+        → Half (f .width) (chroma-start (f .phase) i) 0 (chroma-count f i + 8) (trials f k i) row
+    whole k old row h m =
+        let l = mirrored (f .width) c (read .taken .wide) small (4 - 4) (half-count (f .width) c + 4 + 4) (trials f k i) old row h m in
+        half-told 0 8 8 (trials f k i) row (entries-as l (omega arith) (omega arith) (λ x a b. refl)) refl
+
+    pub formed : Sums-read f i diagonals verticals ph pv pd
+    formed = record {
+      planes = read;
+      across-row = whole horizontal ph₀ ph across-half ph-mirrored;
+      down-row = half-told 4 4 4 (trials f vertical i) pv down-half refl;
+      both-row = whole diagonal pd₀ pd both-half pd-mirrored;
+    }

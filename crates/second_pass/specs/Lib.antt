@@ -1,0 +1,4 @@
+pub mod Picked
+pub mod Across
+pub mod Forming
+pub mod Picking

@@ -1,0 +1,4 @@
+pub mod SevenRows
+pub mod SevenRowLaws
+pub mod NorthRows
+pub mod Lent

@@ -1,0 +1,127 @@
+-- What a step asks of the rows that it reads, and the sizes that it leaves. Assumes nothing.
+use mathlib.Core.Path.{_≡_, refl}
+use mathlib.Core.List.{List}
+use Prim.Native.Nat.{ℕ, _+_, _*_, _-_, _<_, _≤_}
+use native.Mathlib.Omega.{arith}
+use lib.IntN.{ℤ, pos, subℕ}
+use lib.ListN.{length}
+use Rattle.toolkit.specs.Entries.{Entries}
+use Rattle.frame.specs.Sites.{Frame, reflect}
+use Rattle.method.specs.Green.{Direction, horizontal, vertical, diagonal}
+use Rattle.positions.specs.HalfRows.{chroma-start, chroma-count, Half}
+use Rattle.positions.specs.HalfRowLaws.{count-high, count-most}
+use Rattle.positions.specs.Places.{area, row-end}
+use Rattle.records.specs.Quantities.{trials}
+use Rattle.records.specs.Stages.{Second-reads}
+use Rattle.half_rows.specs.Near.{chroma-count-is}
+use Rattle.sums.specs.Sums.{Held-near, Sums-read, Sized, Sums-room}
+use Rattle.sums.specs.Nearby.{near-above, near-below}
+use Rattle.sums.specs.Sizes.{sized-as, row-sized, plane-sized, columns-sized, rows-sized}
+use Rattle.sums.specs.Steps.{middle}
+use Rattle.sums.specs.Widening.{Stepped}
+
+-- the sums before a step leave room for it
+pub before : {m hi : ℕ} {sums : List ℤ} → Sized m 4 hi sums → m ≤ 1048576 → Sized 1048576 4 hi sums
+before s l = sized-as s l (omega arith) (omega arith)
+
+module _ {f : Frame} {i count : ℕ} {diagonals verticals : List ℤ} (read : Second-reads f i diagonals verticals)
+    (same : count ≡ chroma-count f i) where
+  -- how many red and blue sites a row has
+  pub count-room : (count ≤ 2048) × (count ≤ f .width)
+  count-room =
+      let c = chroma-start (f .phase) i in
+      let e = chroma-count-is f i c refl in
+      (omega (arith, count-most (f .width) c (read .taken .narrow)), omega (arith, count-high (f .width) c))
+
+  -- where a row of a plane starts
+  pub row-place : (r : ℕ) → r < f .height → (r * f .width + count ≤ f .height * f .width) × (f .height * f .width ≤ 16777216)
+  row-place r l =
+      let t = read .taken in
+      (omega (arith, row-end (f .height) (f .width) r l, count-room .1), area (f .height) (f .width) (t .low) (t .narrow))
+
+module _ {f : Frame} {i count : ℕ} {diagonals verticals ph pv pd : List ℤ} (read : Sums-read f i diagonals verticals ph pv pd)
+    (same : count ≡ chroma-count f i) where
+  abbrev start : ℕ
+  start = chroma-start (f .phase) i
+
+  module _ {t : ℕ} (few : t ≤ 4) where
+    -- `add_columns`, with a half row of r_k
+    pub columns-asked : (k : Direction) (row sums : List ℤ) → Half (f .width) start 0 (chroma-count f i + 8) (trials f k i) row
+        → length sums ≡ 2064 → Sized 1048576 4 (count + 4) sums
+        → ((t ≤ 4) × (count ≤ 2048) × (length sums ≡ 2064)) × ((Sized 32760 0 (count + 8) row) × (Sized 1048576 4 (count + 4) sums))
+    columns-asked k row sums h e s =
+        let p = read .planes in
+        ((few, count-room p same .0, e), (sized-as (row-sized f (p .taken) k start i row (p .inside) h) (omega arith) (omega arith) (omega arith), s))
+
+    -- `add_rows`, with a half row and a plane of r_k
+    pub rows-asked : (k : Direction) (row plane sums : List ℤ) (above below : ℕ) → Half (f .width) start 4 (chroma-count f i + 4) (trials f k i) row
+        → Held-near f i (trials f k) plane → length plane ≡ f .height * f .width
+        → (above ≡ reflect (f .height) (subℕ i (2 * t))) × (above < f .height) → (below ≡ reflect (f .height) (pos (i + 2 * t))) × (below < f .height)
+        → length sums ≡ 2064 → Sized 1048576 4 (count + 4) sums
+        → ((above * f .width + count ≤ length plane) × (below * f .width + count ≤ length plane) × (length plane ≤ 67108864) × (count ≤ 2048)
+        × (length sums ≡ 2064))
+        × ((Sized 32760 4 (count + 4) row) × (Sized 32760 (above * f .width) (above * f .width + count) plane)
+        × (Sized 32760 (below * f .width) (below * f .width + count) plane) × (Sized 1048576 4 (count + 4) sums))
+    rows-asked k row plane sums above below h held size a b e s =
+        let p = read .planes in
+        let u = row-place p same above (a .1) in
+        let v = row-place p same below (b .1) in (
+          (omega (arith, u), omega (arith, v), omega (arith, u), count-room p same .0, e),
+          (
+            sized-as (row-sized f (p .taken) k start i row (p .inside) h) (omega arith) (omega arith) (omega arith),
+            plane-sized f (p .taken) k i above (above * f .width) count plane held
+                (near-above (f .height) i t above (p .taken .tall) (p .inside) few (a .0)) same refl,
+            plane-sized f (p .taken) k i below (below * f .width) count plane held
+                (near-below (f .height) i t below (p .taken .tall) (p .inside) few (b .0)) same refl,
+            s,
+          ),
+        )
+
+    pub room-next : (above below : ℕ) (fh fv fd new-fh new-fv mid-fd new-fd : List ℤ)
+        → (above ≡ reflect (f .height) (subℕ i (2 * t))) × (above < f .height)
+        → (below ≡ reflect (f .height) (pos (i + 2 * t))) × (below < f .height) → 1 ≤ t → Sums-room ((t - 1) * 131040) count fh fv fd
+        → Stepped t (above * f .width) (below * f .width) count diagonals verticals ph pv pd fh fv fd new-fh new-fv mid-fd new-fd
+        → Sums-room (t * 131040) count new-fh new-fv new-fd
+    room-next above below fh fv fd new-fh new-fv mid-fd new-fd a b one room new =
+        let p = read .planes in
+        let h = columns-asked horizontal ph fh (read .across-row) (room .across-size) (before (room .across-most) (omega arith)) in
+        let v = rows-asked vertical pv verticals fv above below (read .down-row) (p .verticals-held) (p .verticals-size) a b (room .down-size)
+        (before (room .down-most) (omega arith)) in
+        let c = columns-asked diagonal pd fd (read .both-row) (room .both-size) (before (room .both-most) (omega arith)) in
+        let mid = columns-sized t count few (c .1 .0) (room .both-most) (new .both-first) in
+        let d = rows-asked diagonal pd diagonals mid-fd above below (middle (chroma-count f i) (read .both-row)) (p .diagonals-held)
+        (p .diagonals-size) a b (new .both-first .size) (before mid (omega arith)) in
+        record {
+          across-size = new .across .size;
+          down-size = new .down-columns .size;
+          both-size = new .both-second .size;
+          across-most = sized-as (columns-sized t count few (h .1 .0) (room .across-most) (new .across)) (omega arith) (omega arith) (omega arith);
+          down-most = sized-as (rows-sized count (v .1 .0) (v .1 .1) (v .1 .2) (room .down-most) (new .down-columns)) (omega arith) (omega arith)
+              (omega arith);
+          both-most = sized-as (rows-sized count (d .1 .0) (d .1 .1) (d .1 .2) mid (new .both-second)) (omega arith) (omega arith) (omega arith);
+        }
+
+-- no sums yet
+pub room-none : {count : ℕ} {fh fv fd : List ℤ} → Entries (pos 0) 2064 4 (count + 4) (λ (x : ℕ). pos 0) fh
+    → Entries (pos 0) 2064 4 (count + 4) (λ (x : ℕ). pos 0) fv → Entries (pos 0) 2064 4 (count + 4) (λ (x : ℕ). pos 0) fd → Sums-room 0 count fh fv fd
+room-none a b c = record {
+  across-size = a .size;
+  down-size = b .size;
+  both-size = c .size;
+  across-most = none _ a;
+  down-most = none _ b;
+  both-most = none _ c;
+}
+  where
+    none : {m : ℕ} (count : ℕ) {sums : List ℤ} → Entries (pos 0) 2064 4 (count + 4) (λ (x : ℕ). pos 0) sums → Sized m 4 (count + 4) sums
+    none count e = record { each = λ x l h. rw (e .at x l h) (omega arith) }
+
+pub room-as : {m n count : ℕ} {fh fv fd : List ℤ} → Sums-room m count fh fv fd → m ≤ n → Sums-room n count fh fv fd
+room-as r l = record {
+  across-size = r .across-size;
+  down-size = r .down-size;
+  both-size = r .both-size;
+  across-most = sized-as (r .across-most) l (omega arith) (omega arith);
+  down-most = sized-as (r .down-most) l (omega arith) (omega arith);
+  both-most = sized-as (r .both-most) (omega arith) (omega arith) (omega arith);
+}
