@@ -87,7 +87,7 @@ fn the_frames_hold_ties() {
     let mut generator = Generator::new(10);
     let (mut equal, mut weak, mut tied) = (0, 0, 0);
     for turn in 0..2_000 {
-        let frame = frame(&mut generator, KINDS[turn % 4], 12);
+        let frame = frame(&mut generator, KINDS[turn % KINDS.len()], 12);
         let sites = first_pass(&frame);
         for row in 0..frame.height as i64 {
             for column in 0..frame.width as i64 {

@@ -100,7 +100,7 @@ fn all_numbers_lie_in_the_range() {
     let mut generator = Generator::new(23);
     let (mut least, mut greatest) = (0, 0);
     for turn in 0..6_000 {
-        let mut frame = frame(&mut generator, KINDS[turn % 4], 12);
+        let mut frame = frame(&mut generator, KINDS[turn % KINDS.len()], 12);
         if turn % 3 == 0 {
             // the ends of the range alone
             for sample in &mut frame.samples {
