@@ -1,7 +1,9 @@
 //! What the tests share: numbers drawn from a seed, frames of six kinds, developed planes.
 #![allow(dead_code)] // each test file uses a part
 
+pub mod demand3;
 pub mod fraction;
+pub mod lent;
 
 use reference::calls::develop;
 use reference::frame_file::{block_count, check, write, BLOCK};
@@ -142,12 +144,32 @@ pub fn frame_of_sides(generator: &mut Generator, kind: Kind, width: usize, heigh
     }
 }
 
+/// K10: 8 rows of 0 0 0 0 800 800 800 800
+pub fn edge_frame(phase: usize) -> Frame {
+    Frame {
+        width: 8,
+        height: 8,
+        phase,
+        samples: [0, 0, 0, 0, 800, 800, 800, 800].repeat(8),
+    }
+}
+
 /// The planes that develop fills.
 #[derive(Clone, Debug, PartialEq, Eq)]
 pub struct Developed {
     pub red: Vec<i32>,
     pub green: Vec<i32>,
     pub blue: Vec<i32>,
+}
+
+/// Three planes that are all equal to the mosaic.
+pub fn grey(frame: &Frame) -> Developed {
+    let mosaic: Vec<i32> = frame.samples.iter().map(|&z| i32::from(z)).collect();
+    Developed {
+        red: mosaic.clone(),
+        green: mosaic.clone(),
+        blue: mosaic,
+    }
 }
 
 /// Develops a frame that must be accepted, into buffers that hold something else.
