@@ -2,21 +2,9 @@
 
 mod common;
 
+use common::lent::Lent;
 use common::{developed, frame_of_sides, must_refuse, with, Call, Generator, Kind};
 use reference::calls::{clamp, develop, refused, returned};
-
-/// All that is lent to one call of develop.
-#[derive(Clone, Debug, PartialEq)]
-struct Lent {
-    width: usize,
-    height: usize,
-    phase: usize,
-    mosaic: Vec<u16>,
-    red: Vec<i32>,
-    green: Vec<i32>,
-    blue: Vec<i32>,
-    work: Vec<i32>,
-}
 
 impl Call for Lent {
     fn call(&mut self) -> (u32, usize) {
@@ -33,35 +21,17 @@ impl Call for Lent {
     }
 }
 
-/// A call that is accepted.
-fn lent(generator: &mut Generator) -> Lent {
-    let (width, height) = (generator.size(2, 7), generator.size(2, 7));
-    let frame = frame_of_sides(generator, Kind::Random, width, height);
-    let count = width * height;
-    let more = generator.size(0, 3);
-    Lent {
-        width,
-        height,
-        phase: frame.phase,
-        mosaic: frame.samples,
-        red: generator.numbers(count),
-        green: generator.numbers(count),
-        blue: generator.numbers(count),
-        work: generator.numbers(4 * count + more),
-    }
-}
-
 #[test]
 fn valid_calls_are_accepted() {
     let mut generator = Generator::new(50);
     for _ in 0..100 {
-        assert_eq!(lent(&mut generator).call(), (0, 0));
+        assert_eq!(Lent::small(&mut generator).call(), (0, 0));
     }
 }
 
 #[test]
 fn refusal_1_for_a_side_not_allowed() {
-    let valid = lent(&mut Generator::new(51));
+    let valid = Lent::small(&mut Generator::new(51));
     for side in [0, 1, 4_097, 8_192, 65_538, usize::MAX / 2 + 1, usize::MAX] {
         must_refuse(with(&valid, |lent| lent.width = side), 1, 0);
         must_refuse(with(&valid, |lent| lent.height = side), 1, 0);
@@ -81,7 +51,7 @@ fn the_greatest_sides_are_accepted() {
 
 #[test]
 fn refusal_2_for_a_phase_above_3() {
-    let valid = lent(&mut Generator::new(53));
+    let valid = Lent::small(&mut Generator::new(53));
     for phase in [4, 5, 256, usize::MAX] {
         must_refuse(with(&valid, |lent| lent.phase = phase), 2, 0);
     }
@@ -91,7 +61,7 @@ fn refusal_2_for_a_phase_above_3() {
 fn refusal_3_for_the_length_of_the_mosaic() {
     let mut generator = Generator::new(54);
     for _ in 0..20 {
-        let valid = lent(&mut generator);
+        let valid = Lent::small(&mut generator);
         let count = valid.mosaic.len();
         for length in [0, 1, count - 1, count + 1, 2 * count] {
             must_refuse(with(&valid, |lent| lent.mosaic.resize(length, 7)), 3, 0);
@@ -103,7 +73,7 @@ fn refusal_3_for_the_length_of_the_mosaic() {
 fn refusal_4_for_the_length_of_another_buffer() {
     let mut generator = Generator::new(55);
     for _ in 0..20 {
-        let valid = lent(&mut generator);
+        let valid = Lent::small(&mut generator);
         let count = valid.mosaic.len();
         for length in [0, count - 1, count + 1, 4 * count] {
             must_refuse(with(&valid, |lent| lent.red.resize(length, 7)), 4, 0);
@@ -120,7 +90,7 @@ fn refusal_4_for_the_length_of_another_buffer() {
 fn refusal_5_for_the_first_sample_above_1023() {
     let mut generator = Generator::new(56);
     for _ in 0..100 {
-        let valid = lent(&mut generator);
+        let valid = Lent::small(&mut generator);
         let last = valid.mosaic.len() - 1;
         let sample = generator.one_of(&[1_024, 1_025, 4_095, 65_535]);
         let place = generator.size(0, last);
@@ -140,32 +110,16 @@ fn refusal_5_for_the_first_sample_above_1023() {
     }
 }
 
-/// Puts the fault of one number into the call.
-fn spoil(lent: &mut Lent, number: u32, generator: &mut Generator) {
-    match number {
-        1 => lent.width = generator.one_of(&[0, 1, 4_097, usize::MAX]),
-        2 => lent.phase = generator.one_of(&[4, 9, usize::MAX]),
-        3 => lent.mosaic.push(3),
-        4 => match generator.between(0, 3) {
-            0 => lent.red.push(1),
-            1 => lent.green.clear(),
-            2 => lent.blue.truncate(1),
-            _ => lent.work.truncate(3),
-        },
-        _ => lent.mosaic[0] = 2_000,
-    }
-}
-
 #[test]
 fn of_several_faults_the_lowest_number_is_told() {
     let mut generator = Generator::new(57);
     for faults in (1..32).cycle().take(31 * 20) {
-        let mut lent = lent(&mut generator);
+        let mut lent = Lent::small(&mut generator);
         let numbers: Vec<u32> = (1..=5)
             .filter(|number| faults >> (number - 1) & 1 == 1)
             .collect();
         for &number in numbers.iter().rev() {
-            spoil(&mut lent, number, &mut generator);
+            lent.spoil(number, &mut generator);
         }
         must_refuse(lent, numbers[0], 0);
     }

@@ -2,22 +2,12 @@
 
 mod common;
 
-use common::{developed, Developed};
+use common::{developed, edge_frame, grey, Developed};
 use reference::frame_file::{check, pack, unpack};
 use reference::gradients::gradients;
 use reference::green::{outcome, FirstPass, Outcome};
 use reference::planes::{weighted_mean, whole};
 use reference::sites::Frame;
-
-/// 8 rows of 0 0 0 0 800 800 800 800
-fn edge_frame(phase: usize) -> Frame {
-    Frame {
-        width: 8,
-        height: 8,
-        phase,
-        samples: [0, 0, 0, 0, 800, 800, 800, 800].repeat(8),
-    }
-}
 
 /// The green, out of gH = 16, gV = 32, gD = 24, that the first pass takes.
 fn taken(h: i64, v: i64) -> Option<i64> {
@@ -103,13 +93,7 @@ fn k10_eastbound_gradients_at_an_edge() {
 fn k10_planes_equal_the_mosaic_in_every_phase() {
     for phase in 0..4 {
         let frame = edge_frame(phase);
-        let mosaic: Vec<i32> = frame.samples.iter().map(|&z| i32::from(z)).collect();
-        let planes = Developed {
-            red: mosaic.clone(),
-            green: mosaic.clone(),
-            blue: mosaic,
-        };
-        assert_eq!(developed(&frame), planes, "phase {phase}");
+        assert_eq!(developed(&frame), grey(&frame), "phase {phase}");
     }
 }
 

@@ -29,7 +29,7 @@ fn surrounded(frame: &Frame, margin: i64) -> Frame {
 fn a_border_of_reflected_samples_changes_nothing() {
     let mut generator = Generator::new(30);
     for turn in 0..240 {
-        let inner = frame(&mut generator, KINDS[turn % 4], 9);
+        let inner = frame(&mut generator, KINDS[turn % KINDS.len()], 9);
         let outer = surrounded(&inner, 16);
         let (inner_planes, outer_planes) = (developed(&inner), developed(&outer));
         for row in 0..inner.height {
@@ -122,7 +122,7 @@ fn flat_frames_are_returned() {
 fn gradients_keep_their_bound_and_the_border_is_even() {
     let mut generator = Generator::new(34);
     for turn in 0..600 {
-        let frame = frame(&mut generator, KINDS[turn % 4], 9);
+        let frame = frame(&mut generator, KINDS[turn % KINDS.len()], 9);
         let (last_row, last_column) = (frame.height as i64 - 1, frame.width as i64 - 1);
         for row in 0..=last_row {
             for column in 0..=last_column {

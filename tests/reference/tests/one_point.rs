@@ -209,7 +209,7 @@ impl Endless<'_> {
 fn develop_agrees_with_the_second_form() {
     let mut generator = Generator::new(40);
     for turn in 0..160 {
-        let frame = frame(&mut generator, KINDS[turn % 4], 12);
+        let frame = frame(&mut generator, KINDS[turn % KINDS.len()], 12);
         let endless = Endless {
             frame: &frame,
             sites: RefCell::new(HashMap::new()),

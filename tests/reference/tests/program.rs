@@ -41,7 +41,7 @@ fn texts_of_accepted_frames() {
     let mut generator = Generator::new(90);
     let mut clamped = 0;
     for turn in 0..300 {
-        let frame = frame(&mut generator, KINDS[turn % 4], 12);
+        let frame = frame(&mut generator, KINDS[turn % KINDS.len()], 12);
         let planes = developed(&frame);
         let numbers = [planes.red, planes.green, planes.blue].concat();
         clamped += usize::from(numbers.iter().any(|number| !(0..=1023).contains(number)));

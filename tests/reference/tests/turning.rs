@@ -2,45 +2,14 @@
 
 mod common;
 
-use common::{developed, frame, frame_of_sides, Developed, Generator, Kind, KINDS};
+use common::demand3::{compare_changed, list};
+use common::{developed, frame, frame_of_sides, Generator, Kind, KINDS};
 use reference::gradients::gradients;
 use reference::green::{first_pass, sums, Outcome, D, H, V};
 use reference::sites::{Colour, Frame};
 use reference::turning::{
     changed, changed_by_list, matching_point, trades_an_odd_number, Change, CHANGES,
 };
-
-/// The three numbers at a point, red and blue traded if asked.
-fn numbers(planes: &Developed, site: usize, traded: bool) -> [i32; 3] {
-    let (red, blue) = (planes.red[site], planes.blue[site]);
-    if traded {
-        [blue, planes.green[site], red]
-    } else {
-        [red, planes.green[site], blue]
-    }
-}
-
-/// Compares every point of the first frame with its matching point in the last.
-fn compare(first: &Frame, changes: &[Change]) {
-    let last = changed_by_list(first, changes);
-    let (first_planes, last_planes) = (developed(first), developed(&last));
-    let traded = trades_an_odd_number(changes);
-    for row in 0..first.height {
-        for column in 0..first.width {
-            let (to_row, to_column) = matching_point(first, changes, (row, column));
-            assert_eq!(
-                numbers(&first_planes, row * first.width + column, false),
-                numbers(&last_planes, to_row * last.width + to_column, traded),
-                "({row},{column}) of {first:?} by {changes:?}"
-            );
-        }
-    }
-}
-
-fn list(generator: &mut Generator) -> Vec<Change> {
-    let length = generator.size(0, 6);
-    (0..length).map(|_| generator.one_of(&CHANGES)).collect()
-}
 
 #[test]
 fn lists_of_changes_keep_the_numbers() {
@@ -49,7 +18,7 @@ fn lists_of_changes_keep_the_numbers() {
         for kind in KINDS {
             let first = frame(&mut generator, kind, 12);
             let changes = list(&mut generator);
-            compare(&first, &changes);
+            compare_changed(developed, &first, &changes);
         }
     }
 }
@@ -62,7 +31,7 @@ fn every_change_on_every_small_size_and_phase() {
             for change in CHANGES {
                 let mut first = frame_of_sides(&mut generator, Kind::FewValued, width, height);
                 first.phase = phase;
-                compare(&first, &[change]);
+                compare_changed(developed, &first, &[change]);
             }
         }
     }
@@ -75,8 +44,8 @@ fn quarter_turns_of_long_narrow_frames() {
     for (width, height) in [(2, 40), (40, 2), (3, 33), (33, 3), (4, 50), (50, 5)] {
         for kind in KINDS {
             let first = frame_of_sides(&mut generator, kind, width, height);
-            compare(&first, &turn);
-            compare(&first, &turn.repeat(3));
+            compare_changed(developed, &first, &turn);
+            compare_changed(developed, &first, &turn.repeat(3));
         }
     }
 }
@@ -87,7 +56,7 @@ fn the_frames_hold_ties() {
     let mut generator = Generator::new(10);
     let (mut equal, mut weak, mut tied) = (0, 0, 0);
     for turn in 0..2_000 {
-        let frame = frame(&mut generator, KINDS[turn % 4], 12);
+        let frame = frame(&mut generator, KINDS[turn % KINDS.len()], 12);
         let sites = first_pass(&frame);
         for row in 0..frame.height as i64 {
             for column in 0..frame.width as i64 {

@@ -2,9 +2,10 @@
 
 mod common;
 
+use common::demand3::{compare_measured, compare_raised, constants, extremes, raised};
 use common::{developed, frame, frame_of_sides, Developed, Generator, Kind, KINDS};
 use reference::calls::develop;
-use reference::sites::{Colour, Frame};
+use reference::sites::Frame;
 
 /// The frame with its samples pressed together, so that constants have room.
 fn pressed(mut frame: Frame, by: u16) -> Frame {
@@ -12,32 +13,6 @@ fn pressed(mut frame: Frame, by: u16) -> Frame {
         *sample /= by;
     }
     frame
-}
-
-fn raised(frame: &Frame, constant: i64) -> Frame {
-    let mut raised = frame.clone();
-    for sample in &mut raised.samples {
-        *sample = u16::try_from(i64::from(*sample) + constant).unwrap();
-    }
-    raised
-}
-
-/// Adding the constant to every sample adds it to all three numbers at every point.
-fn compare(frame: &Frame, constant: i64) {
-    let before = developed(frame);
-    let after = developed(&raised(frame, constant));
-    let add = |plane: &[i32]| -> Vec<i32> {
-        plane
-            .iter()
-            .map(|&number| number + constant as i32)
-            .collect()
-    };
-    let expected = Developed {
-        red: add(&before.red),
-        green: add(&before.green),
-        blue: add(&before.blue),
-    };
-    assert_eq!(after, expected, "{constant} added to {frame:?}");
 }
 
 #[test]
@@ -48,15 +23,13 @@ fn added_constants_above_and_below_zero() {
         for kind in KINDS {
             let by = generator.one_of(&[1, 2, 3, 10, 100]);
             let first = pressed(frame(&mut generator, kind, 12), by);
-            let least = i64::from(*first.samples.iter().min().unwrap());
-            let greatest = i64::from(*first.samples.iter().max().unwrap());
-            let start = raised(&first, generator.between(-least, 1023 - greatest));
-            let least = i64::from(*start.samples.iter().min().unwrap());
-            let greatest = i64::from(*start.samples.iter().max().unwrap());
-            let constant = generator.between(-least, 1023 - greatest);
+            let (least, greatest) = constants(&first);
+            let start = raised(&first, generator.between(least, greatest));
+            let (least, greatest) = constants(&start);
+            let constant = generator.between(least, greatest);
             above += usize::from(constant > 0);
             below += usize::from(constant < 0);
-            compare(&start, constant);
+            compare_raised(developed, &start, constant);
         }
     }
     assert!(above > 500 && below > 500, "{above} {below}");
@@ -67,11 +40,10 @@ fn added_constants_to_the_ends_of_the_range() {
     let mut generator = Generator::new(21);
     for _ in 0..300 {
         let first = pressed(frame(&mut generator, Kind::Random, 9), 2);
-        let least = i64::from(*first.samples.iter().min().unwrap());
-        let greatest = i64::from(*first.samples.iter().max().unwrap());
-        compare(&first, -least);
-        compare(&first, 1023 - greatest);
-        compare(&first, 1);
+        let (least, greatest) = constants(&first);
+        for constant in [least, greatest, 1] {
+            compare_raised(developed, &first, constant);
+        }
     }
 }
 
@@ -81,16 +53,7 @@ fn the_measured_sample_stands_in_its_own_colour() {
     for _ in 0..1_000 {
         for kind in KINDS {
             let frame = frame(&mut generator, kind, 12);
-            let planes = developed(&frame);
-            for (site, &sample) in frame.samples.iter().enumerate() {
-                let (row, column) = (site / frame.width, site % frame.width);
-                let plane = match frame.colour(row as i64, column as i64) {
-                    Colour::Red => &planes.red,
-                    Colour::Green => &planes.green,
-                    Colour::Blue => &planes.blue,
-                };
-                assert_eq!(plane[site], i32::from(sample), "site {site} of {frame:?}");
-            }
+            compare_measured(developed, &frame);
         }
     }
 }
@@ -100,19 +63,16 @@ fn all_numbers_lie_in_the_range() {
     let mut generator = Generator::new(23);
     let (mut least, mut greatest) = (0, 0);
     for turn in 0..6_000 {
-        let mut frame = frame(&mut generator, KINDS[turn % 4], 12);
+        let mut frame = frame(&mut generator, KINDS[turn % KINDS.len()], 12);
         if turn % 3 == 0 {
             // the ends of the range alone
             for sample in &mut frame.samples {
                 *sample = generator.one_of(&[0, 1023]);
             }
         }
-        let planes = developed(&frame);
-        for number in [planes.red, planes.green, planes.blue].concat() {
-            assert!((-2_046..=3_069).contains(&number), "{number} of {frame:?}");
-            least = least.min(number);
-            greatest = greatest.max(number);
-        }
+        let (lowest, highest) = extremes(developed, &frame);
+        least = least.min(lowest);
+        greatest = greatest.max(highest);
     }
     // numbers outside 0..1,023 do occur: the planes are not clamped
     assert!(least < -300 && greatest > 1_323, "{least} {greatest}");

@@ -1,7 +1,9 @@
-//! What the tests share: numbers drawn from a seed, frames of four kinds, developed planes.
+//! What the tests share: numbers drawn from a seed, frames of six kinds, developed planes.
 #![allow(dead_code)] // each test file uses a part
 
+pub mod demand3;
 pub mod fraction;
+pub mod lent;
 
 use reference::calls::develop;
 use reference::frame_file::{block_count, check, write, BLOCK};
@@ -55,9 +57,18 @@ pub enum Kind {
     Flat,
     FewValued,
     Striped,
+    Smooth,
+    Glaze,
 }
 
-pub const KINDS: [Kind; 4] = [Kind::Random, Kind::Flat, Kind::FewValued, Kind::Striped];
+pub const KINDS: [Kind; 6] = [
+    Kind::Random,
+    Kind::Flat,
+    Kind::FewValued,
+    Kind::Striped,
+    Kind::Smooth,
+    Kind::Glaze,
+];
 
 /// A few values, near each other, at the ends of the range or anywhere.
 fn few_values(generator: &mut Generator) -> Vec<u16> {
@@ -70,6 +81,37 @@ fn few_values(generator: &mut Generator) -> Vec<u16> {
     }
 }
 
+/// A few values by turns, along one of five directions.
+fn striped(generator: &mut Generator, width: usize, count: usize) -> Vec<u16> {
+    let period = generator.size(2, 5);
+    let values: Vec<u16> = (0..period).map(|_| generator.sample()).collect();
+    let (down, along) = generator.one_of(&[(0, 1), (1, 0), (1, 1), (1, 4), (2, 1)]);
+    let stripe = |site: usize| down * (site / width) + along * (site % width);
+    (0..count)
+        .map(|site| values[stripe(site) % period])
+        .collect()
+}
+
+/// A slope with little noise.
+fn smooth(generator: &mut Generator, width: usize, count: usize) -> Vec<u16> {
+    let (base, noise) = (generator.between(200, 800), generator.between(0, 2));
+    let (down, along) = (generator.between(-20, 20), generator.between(-20, 20));
+    let slope = |site: usize| (down * (site / width) as i64 + along * (site % width) as i64) / 4;
+    (0..count)
+        .map(|site| (base + slope(site) + generator.between(0, noise)).clamp(0, 1023) as u16)
+        .collect()
+}
+
+/// One level with specks a little above or below it.
+fn glaze(generator: &mut Generator, count: usize) -> Vec<u16> {
+    let (base, rarity) = (generator.between(2, 1021), generator.size(2, 16));
+    let mut speck = || match generator.size(1, rarity) {
+        1 => base + generator.between(-2, 2),
+        _ => base,
+    };
+    (0..count).map(|_| speck() as u16).collect()
+}
+
 /// The samples of a frame of the kind.
 fn samples(generator: &mut Generator, kind: Kind, width: usize, height: usize) -> Vec<u16> {
     let count = width * height;
@@ -80,15 +122,9 @@ fn samples(generator: &mut Generator, kind: Kind, width: usize, height: usize) -
             let values = few_values(generator);
             (0..count).map(|_| generator.one_of(&values)).collect()
         }
-        Kind::Striped => {
-            let period = generator.size(2, 5);
-            let values: Vec<u16> = (0..period).map(|_| generator.sample()).collect();
-            let (down, along) = generator.one_of(&[(0, 1), (1, 0), (1, 1), (1, 4), (2, 1)]);
-            let stripe = |site: usize| down * (site / width) + along * (site % width);
-            (0..count)
-                .map(|site| values[stripe(site) % period])
-                .collect()
-        }
+        Kind::Striped => striped(generator, width, count),
+        Kind::Smooth => smooth(generator, width, count),
+        Kind::Glaze => glaze(generator, count),
     }
 }
 
@@ -108,12 +144,32 @@ pub fn frame_of_sides(generator: &mut Generator, kind: Kind, width: usize, heigh
     }
 }
 
+/// K10: 8 rows of 0 0 0 0 800 800 800 800
+pub fn edge_frame(phase: usize) -> Frame {
+    Frame {
+        width: 8,
+        height: 8,
+        phase,
+        samples: [0, 0, 0, 0, 800, 800, 800, 800].repeat(8),
+    }
+}
+
 /// The planes that develop fills.
 #[derive(Clone, Debug, PartialEq, Eq)]
 pub struct Developed {
     pub red: Vec<i32>,
     pub green: Vec<i32>,
     pub blue: Vec<i32>,
+}
+
+/// Three planes that are all equal to the mosaic.
+pub fn grey(frame: &Frame) -> Developed {
+    let mosaic: Vec<i32> = frame.samples.iter().map(|&z| i32::from(z)).collect();
+    Developed {
+        red: mosaic.clone(),
+        green: mosaic.clone(),
+        blue: mosaic,
+    }
 }
 
 /// Develops a frame that must be accepted, into buffers that hold something else.
