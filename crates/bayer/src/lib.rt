@@ -5,8 +5,10 @@ use frame::Refusal;
 use frame::Shape;
 ghost use mathlib.Core.Path.{_≡_};
 ghost use lib.ListN.{length};
-ghost use Rattle.frame.specs.Sites.{frame as frame-of};
-ghost use Rattle.frame.specs.Calls.{number-and-place};
+ghost use Rattle.frame.specs.Sites.{frame as frame-of, Colour};
+ghost use Rattle.frame.specs.Calls.{number-and-place, develop-answer, clamp-answer, clamped as clamped-plane, after};
+ghost use Rattle.method.specs.Planes.{plane};
+ghost use Rattle.develop.specs.LentBuffers.{lengths, Kept-on-refusal};
 ghost use Rattle.frame_file.specs.FrameFile.{write-answer, file-after-write, read-answer, samples-after-read};
 ghost use Rattle.bayer.specs.Exports.{Exported, ReadExported};
 
@@ -89,4 +91,43 @@ pub extern "C" fn bayer_write(shape: Shape, mosaic: &[u16], file: &mut [u8]) -> 
     ensures left { λ _. ⌜ now (file .exit) ≡ file-after-write (frame-of shape (now (mosaic .entry))) (now (file .entry)) ⌝ }
 {
     export_answer(writer::write(shape, mosaic, file))
+}
+
+// Fills `clamped` with the numbers of `plane`, each held to 0..1,023; both have the same length.
+#[no_mangle]
+pub extern "C" fn bayer_clamp(plane: &[i32], clamped: &mut [i32]) -> Returned
+    ensures answer { λ r. ⌜ Exported (clamp-answer (length (now (plane .entry))) (length (now (clamped .entry)))) r ⌝ }
+    ensures left { λ _. ⌜ now (clamped .exit) ≡ after (clamp-answer (length (now (plane .entry))) (length (now (clamped .entry))))
+        (clamped-plane (now (plane .entry))) (now (clamped .entry)) ⌝ }
+{
+    export_answer(clamp::clamp(plane, clamped))
+}
+
+// Develops a frame into three planes of W·H entries each, with a work buffer of 4·W·H entries or more, which may hold anything after
+// success.
+#[no_mangle]
+pub extern "C" fn bayer_develop(
+    shape: Shape,
+    mosaic: &[u16],
+    red: &mut [i32],
+    green: &mut [i32],
+    blue: &mut [i32],
+    work: &mut [i32],
+) -> Returned
+    ensures answer { λ r. ⌜ Exported (develop-answer (frame-of shape (now (mosaic .entry)))
+        (lengths (now (red .entry)) (now (green .entry)) (now (blue .entry)) (now (work .entry)))) r ⌝ }
+    ensures red_left { λ _. ⌜ now (red .exit) ≡ after (develop-answer (frame-of shape (now (mosaic .entry)))
+        (lengths (now (red .entry)) (now (green .entry)) (now (blue .entry)) (now (work .entry))))
+        (plane (frame-of shape (now (mosaic .entry))) Colour.red) (now (red .entry)) ⌝ }
+    ensures green_left { λ _. ⌜ now (green .exit) ≡ after (develop-answer (frame-of shape (now (mosaic .entry)))
+        (lengths (now (red .entry)) (now (green .entry)) (now (blue .entry)) (now (work .entry))))
+        (plane (frame-of shape (now (mosaic .entry))) Colour.green) (now (green .entry)) ⌝ }
+    ensures blue_left { λ _. ⌜ now (blue .exit) ≡ after (develop-answer (frame-of shape (now (mosaic .entry)))
+        (lengths (now (red .entry)) (now (green .entry)) (now (blue .entry)) (now (work .entry))))
+        (plane (frame-of shape (now (mosaic .entry))) Colour.blue) (now (blue .entry)) ⌝ }
+    ensures work_left { λ _. ⌜ Kept-on-refusal (develop-answer (frame-of shape (now (mosaic .entry)))
+        (lengths (now (red .entry)) (now (green .entry)) (now (blue .entry)) (now (work .entry))))
+        (now (work .entry)) (now (work .exit)) ⌝ }
+{
+    export_answer(develop::develop(shape, mosaic, red, green, blue, work))
 }

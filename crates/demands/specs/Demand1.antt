@@ -1,0 +1,101 @@
+-- Document 00, demand 1, for each call: what is returned is a row of document 01's table (`Rows`), and whatever is returned other than
+-- 0, 0 leaves every lent buffer as it was. That no call traps, runs without end or touches anything outside what it is lent is proved of
+-- every function by the language; what is lent to be read alone cannot change. Assumes nothing.
+use mathlib.Core.Path.{_≡_, refl, sym, _∙_, ap, ap₂}
+use mathlib.Core.Bool.{true≢false}
+use mathlib.Core.List.{List}
+use Prim.Native.Nat.{ℕ}
+use lib.Dec.{eqb}
+use lib.IntN.{ℤ}
+use lib.ListN.{length}
+use Rattle.toolkit.specs.Tests.{by-test, eqb-eq, eqb-ne}
+use Rattle.frame.specs.declared.Answer.{Answer}
+use Rattle.frame.specs.declared.Answer.the-variants.{Done, Refused}
+use Rattle.frame.specs.declared.ReadAnswer.{ReadAnswer}
+use Rattle.frame.specs.Sites.{Frame}
+use Rattle.frame.specs.Calls.{success, returned, returned-by-read, lengths-allowed, develop-answer, clamp-answer}
+use Rattle.frame_file.specs.FrameFile.{file-length, Reading, accepted, refused, answer-of, samples-of, reading, read-answer, samples-after-read, write-answer, file-after-write}
+use Rattle.demands.specs.WhatCallsLeave.{Buffers, buffers, lengths-of, Lengths-allowed, DevelopLeaves, ClampLeaves, ReadLeaves, WriteLeaves}
+use Rattle.demands.specs.Acceptance.{lengths-yes, yes-lengths}
+use Rattle.demands.specs.Rows.{Row-of-frame, Row-of-read, Row-of-clamp, number-4, done, in-order-row, reading-row}
+
+-- ---- develop
+
+module _ (f : Frame) (before : Buffers) where
+  answer-row : Row-of-frame f (Lengths-allowed f before) (returned (develop-answer f (lengths-of before)))
+  unfolding develop-answer
+  answer-row =
+      in-order-row f (lengths-allowed f (lengths-of before)) (Lengths-allowed f before) (lengths-yes f before)
+      (λ e a. true≢false (sym (yes-lengths f before a) ∙ e))
+
+  -- the number and place that develop returns are a row of the table
+  pub develop-row : (answer : Answer) (left : Buffers) → DevelopLeaves f before answer left
+      → Row-of-frame f (Lengths-allowed f before) (returned answer)
+  develop-row answer left call = rw (call .answered) answer-row
+
+  same-buffers : (left : Buffers) → left .red-plane ≡ before .red-plane → left .green-plane ≡ before .green-plane
+      → left .blue-plane ≡ before .blue-plane → left .work ≡ before .work → left ≡ before
+  same-buffers left r g b w =
+      ap₂ (λ (x y : List ℤ). buffers x y (left .blue-plane) (left .work)) r g
+      ∙ ap₂ (λ (x y : List ℤ). buffers (before .red-plane) (before .green-plane) x y) b w
+
+  -- and a refusal leaves the three planes and the work buffer as they were
+  pub develop-refusal : (answer : Answer) (left : Buffers) → DevelopLeaves f before answer left → ¬ (returned answer ≡ success)
+      → left ≡ before
+  develop-refusal Done left call no-success = absurd (no-success refl)
+  develop-refusal (Refused why) left call no-success =
+      same-buffers left (call .red-left) (call .green-left) (call .blue-left) (call .work-left)
+
+-- ---- clamp
+
+module _ (numbers before : List ℤ) where
+  clamp-answer-row : Row-of-clamp (length before ≡ length numbers) (returned (clamp-answer (length numbers) (length before)))
+  unfolding clamp-answer
+  clamp-answer-row = by-test (eqb (length before) (length numbers)) _
+      (λ t. rw t (done (eqb-eq _ _ t)))
+      (λ t. rw t (number-4 (eqb-ne t)))
+
+  pub clamp-row : (answer : Answer) (left : List ℤ) → ClampLeaves numbers before answer left
+      → Row-of-clamp (length before ≡ length numbers) (returned answer)
+  clamp-row answer left call = rw (call .answered) clamp-answer-row
+
+  pub clamp-refusal : (answer : Answer) (left : List ℤ) → ClampLeaves numbers before answer left → ¬ (returned answer ≡ success)
+      → left ≡ before
+  clamp-refusal Done left call no-success = absurd (no-success refl)
+  clamp-refusal (Refused why) left call no-success = call .plane-left
+
+-- ---- read
+
+module _ (file before : List ℕ) where
+  pub read-row : (answer : ReadAnswer) (left : List ℕ) → ReadLeaves file before answer left → Row-of-read (returned-by-read answer)
+  unfolding read-answer
+  read-row answer left call = rw (call .answered) (reading-row file (length before) .is-row)
+
+  nothing-read : (o : Reading) → ¬ (returned-by-read (answer-of o) ≡ success) → samples-of o before ≡ before
+  nothing-read (accepted f) no-success = absurd (no-success refl)
+  nothing-read (refused why) no-success = refl
+
+  pub read-refusal : (answer : ReadAnswer) (left : List ℕ) → ReadLeaves file before answer left
+      → ¬ (returned-by-read answer ≡ success) → left ≡ before
+  unfolding read-answer samples-after-read
+  read-refusal answer left call no-success =
+      call .samples-left
+      ∙ nothing-read (reading file (length before)) (λ e. no-success (ap returned-by-read (call .answered) ∙ e))
+
+-- ---- write
+
+module _ (f : Frame) (before : List ℕ) where
+  write-answer-row : Row-of-frame f (length before ≡ file-length f) (returned (write-answer f (length before)))
+  unfolding write-answer
+  write-answer-row =
+      in-order-row f (eqb (length before) (file-length f)) (length before ≡ file-length f) (eqb-eq _ _) eqb-ne
+
+  pub write-row : (answer : Answer) (left : List ℕ) → WriteLeaves f before answer left
+      → Row-of-frame f (length before ≡ file-length f) (returned answer)
+  write-row answer left call = rw (call .answered) write-answer-row
+
+  pub write-refusal : (answer : Answer) (left : List ℕ) → WriteLeaves f before answer left → ¬ (returned answer ≡ success)
+      → left ≡ before
+  unfolding file-after-write
+  write-refusal Done left call no-success = absurd (no-success refl)
+  write-refusal (Refused why) left call no-success = rw (← (call .answered)) at (call .file-left)

@@ -1,0 +1,1 @@
+// A library of specs/ alone: the three demands over what the published calls return and leave.

@@ -1,0 +1,2 @@
+pub mod LentBuffers
+pub mod Ready

@@ -1,0 +1,51 @@
+-- A frame and lengths for which develop answers Done: the frame is one that the sweep takes, and every buffer has its room. Assumes
+-- nothing.
+use mathlib.Core.Path.{_≡_}
+use Prim.Native.Nat.{ℕ, _*_, _≤_}
+use native.Mathlib.Omega.{arith}
+use lib.Dec.{leb, eqb, ltb}
+use lib.ListN.{length, List·getD-eq-default}
+use Rattle.toolkit.specs.Tests.{by-test, is-true, leb-le, eqb-eq, ltb-lt, ltb-ge}
+use Rattle.frame.specs.declared.Answer.the-variants.{Done}
+use Rattle.frame.specs.Sites.{Frame, phase-allowed, highest-sample}
+use Rattle.frame.specs.Calls.{Lengths, lengths-allowed, develop-answer, Admitted}
+use Rattle.frame.specs.Admission.{and-true, side-low, side-high, done-admitted}
+use Rattle.positions.specs.Taken.{Taken}
+
+pub record Ready (f : Frame) (l : Lengths) : Type 0 where
+  pub taken : Taken f
+  pub red-size : l .red ≡ f .height * f .width
+  pub green-size : l .green ≡ f .height * f .width
+  pub blue-size : l .blue ≡ f .height * f .width
+  pub work-size : f .height * (4 * f .width) ≤ l .work
+
+pub admitted-taken : (f : Frame) → Admitted f → Taken f
+unfolding phase-allowed highest-sample
+admitted-taken f a = record {
+  wide = side-low (a .width-allowed);
+  narrow = side-high (a .width-allowed);
+  tall = side-low (a .height-allowed);
+  low = side-high (a .height-allowed);
+  phase-small = leb-le (f .phase) 3 (is-true _ (a .phase-is-allowed));
+  full = a .samples-count;
+  ranged = λ k. by-test (ltb k (length (f .samples))) _
+      (λ t. a .samples-in-range k (ltb-lt _ _ t))
+      (λ t. rw (List·getD-eq-default (f .samples) 0 {n = k} (ltb-ge _ _ t)) (omega arith));
+}
+
+pub done-ready : (f : Frame) (l : Lengths) → develop-answer f l ≡ Done → Ready f l
+unfolding develop-answer lengths-allowed
+done-ready f l e =
+    let n : ℕ = f .height * f .width in
+    let done = done-admitted f (lengths-allowed f l) e in
+    let red = and-true (eqb (l .red) n) _ (is-true _ (done .0)) in
+    let green = and-true (eqb (l .green) n) _ (red .1) in
+    let blue = and-true (eqb (l .blue) n) (leb (4 * n) (l .work)) (green .1) in
+    let work : 4 * (f .height * f .width) ≤ l .work = leb-le _ _ (blue .1) in
+    record {
+      taken = admitted-taken f (done .1);
+      red-size = eqb-eq _ _ (red .0);
+      green-size = eqb-eq _ _ (green .0);
+      blue-size = eqb-eq _ _ (blue .0);
+      work-size = omega arith;
+    }

@@ -1,0 +1,100 @@
+use borrow.Author.Needs.{needs}
+use mathlib.Core.Path.{refl, _∙_, ap}
+use Prim.Native.Nat.{ℕ, _+_, _*_}
+use Rattle.positions.specs.HalfRowLaws.{count-high}
+use Rattle.records.specs.Layout.{record-size, final-part, other-part}
+use Rattle.out_rows.proofs.row_places.Statement.{statement}
+use Rattle.out_rows.proofs.row_places.Tie as tie
+
+first-chroma-requires : tie.Need-first-chroma-requires
+first-chroma-requires c κs = search needs
+
+half-count-requires : tie.Need-half-count-requires
+half-count-requires c κs = search needs
+
+add-reflected : tie.Need-add-reflected
+add-reflected c = search needs
+
+reflected-requires : tie.Need-reflected-requires
+reflected-requires c κs = search needs
+
+reflected-less-requires : tie.Need-reflected-less-requires
+reflected-less-requires c κs = search needs
+
+final-at-requires : tie.Need-final-at-requires
+final-at-requires c κs = search needs
+
+other-at-requires : tie.Need-other-at-requires
+other-at-requires c κs = search needs
+
+final-at-requires-2 : tie.Need-final-at-requires-2
+final-at-requires-2 c κs = search needs
+
+other-at-requires-2 : tie.Need-other-at-requires-2
+other-at-requires-2 c κs = search needs
+
+final-at-requires-3 : tie.Need-final-at-requires-3
+final-at-requires-3 c κs = search needs
+
+other-at-requires-3 : tie.Need-other-at-requires-3
+other-at-requires-3 c κs = search needs
+
+sub-t12 : tie.Need-sub-t12
+sub-t12 c =
+    let start = c .before .before .before .before .before .before .before .before .before .before in
+    rw (c .before .before .before .before .before .before .before .before .half-count .ensures .0) (count-high (start .args .shape .width) (c .before .before .before .before .before .before .before .before .before .first-chroma .result))
+
+record-at-requires : tie.Need-record-at-requires
+record-at-requires c κs = search needs
+
+add-t14 : tie.Need-add-t14
+add-t14 c = search needs
+
+add-t15 : tie.Need-add-t15
+add-t15 c = search needs
+
+south-at-requires : tie.Need-south-at-requires
+south-at-requires c κs = search needs
+
+add-t17 : tie.Need-add-t17
+add-t17 c = search needs
+
+returns : tie.Need-returns
+returns c =
+    let w = c .before .before .before .before .before .before .before .before .before .before .before .before .args .shape .width in
+    record {
+      start-is = c .before .before .before .before .before .before .before .before .before .before .before .first-chroma .ensures .0;
+      count-is = c .before .before .before .before .before .before .before .before .before .before .half-count .ensures .0;
+      rest-is = refl;
+      east-is = ap (λ (x : ℕ). x + (c .before .before .before .before .before .before .before .before .before .before .half-count .result + 1)) (c .before .record-at .ensures .0);
+      south-is = ap (λ (x : ℕ). x + c .before .before .before .before .before .before .before .before .before .before .half-count .result) (c .south-at .ensures);
+      finals-is = c .before .before .before .before .before .before .before .final-at .ensures;
+      others-is = c .before .before .before .before .before .before .other-at .ensures;
+      finals-south-is = c .before .before .before .before .before .final-at2 .ensures ∙ ap (λ (r : ℕ). r * record-size w + final-part w) (c .before .before .before .before .before .before .before .before .before .reflected .ensures .0);
+      finals-north-is = c .before .before .before .final-at3 .ensures ∙ ap (λ (r : ℕ). r * record-size w + final-part w) (c .before .before .before .before .before .before .before .before .reflected-less .ensures .0);
+      others-south-is = c .before .before .before .before .other-at2 .ensures ∙ ap (λ (r : ℕ). r * record-size w + other-part w) (c .before .before .before .before .before .before .before .before .before .reflected .ensures .0);
+      others-north-is = c .before .before .other-at3 .ensures ∙ ap (λ (r : ℕ). r * record-size w + other-part w) (c .before .before .before .before .before .before .before .before .reflected-less .ensures .0);
+    }
+
+pub row-places-spec : {M : Type 1} → statement M
+row-places-spec =
+    tie.close
+    (tie.spec
+    first-chroma-requires
+    half-count-requires
+    add-reflected
+    reflected-requires
+    reflected-less-requires
+    final-at-requires
+    other-at-requires
+    final-at-requires-2
+    other-at-requires-2
+    final-at-requires-3
+    other-at-requires-3
+    sub-t12
+    record-at-requires
+    add-t14
+    add-t15
+    south-at-requires
+    add-t17
+    returns)

@@ -1,0 +1,4 @@
+pub mod Woven
+pub mod RowPlaces
+pub mod DirectMeans
+pub mod MeanLaws

@@ -1,0 +1,9 @@
+pub mod RowColours
+pub mod SiteOutputs
+pub mod OutRows
+pub mod DirectDifferences
+pub mod DirectReads
+pub mod HalfLaws
+pub mod RowDifferences
+pub mod RowOutputs
+pub mod PlaneRows

@@ -1,0 +1,58 @@
+-- The half rows of the last stage, and what each of its steps leaves. Definitions alone. Assumes nothing.
+-- Of row i: own and other hold both differences of its red and blue sites, then x and y those of its green sites: of the colour that the
+-- row has beside green, and of the other of red and blue. The outputs then stand in zx, xg and xo (red and blue sites: the measured
+-- colour, green, the other colour) and in zg, x and y (green sites: green, the row's colour, the other colour).
+use mathlib.Core.Path.{_≡_}
+use mathlib.Core.List.{List}
+use Prim.Native.Nat.{ℕ, _+_, _*_, _-_}
+use lib.IntN.{ℤ, pos}
+use lib.ListN.{length}
+use Rattle.toolkit.specs.Writes.{Wrote}
+use Rattle.frame.specs.Sites.{Frame, Colour, green, frame}
+use Rattle.frame.specs.Colours.{trade}
+use Rattle.frame.specs.declared.Shape.{Shape}
+use Rattle.method.specs.Gradients.{mosaic}
+use Rattle.method.specs.Planes.{colour-difference}
+use Rattle.positions.specs.HalfRows.{chroma-start, chroma-count, Half}
+use Rattle.records.specs.Quantities.{finals, others, outputs}
+use Rattle.records.specs.Stages.{Out-reads}
+use Rattle.out_rows.specs.RowPlaces.{Row-of}
+use Rattle.out_stage.specs.RowColours.{row-colour}
+
+-- a quantity of the red and blue sites of row i, and of its green sites
+abbrev pub Chroma-half : Frame → ℕ → (ℕ → ℕ → ℤ) → List ℤ → Type 0
+Chroma-half f i q row = Half (f .width) (chroma-start (f .phase) i) 4 (chroma-count f i + 4) (q i) row
+
+abbrev pub Green-half : Frame → ℕ → (ℕ → ℕ → ℤ) → List ℤ → Type 0
+Green-half f i q row = Half (f .width) (1 - chroma-start (f .phase) i) 4 (f .width - chroma-count f i + 4) (q i) row
+
+pub record Row-differences (f : Frame) (i : ℕ) (own other x y : List ℤ) : Type 0 where
+  pub chroma-own : Chroma-half f i (finals f) own
+  pub chroma-other : Chroma-half f i (others f) other
+  pub green-own : Green-half f i (colour-difference (mosaic f) (row-colour (f .phase) i)) x
+  pub green-other : Green-half f i (colour-difference (mosaic f) (trade (row-colour (f .phase) i))) y
+
+pub record Row-outputs (f : Frame) (i : ℕ) (zx zg xg xo x y : List ℤ) : Type 0 where
+  pub chroma-own : Chroma-half f i (outputs f (row-colour (f .phase) i)) zx
+  pub chroma-green : Chroma-half f i (outputs f green) xg
+  pub chroma-other : Chroma-half f i (outputs f (trade (row-colour (f .phase) i))) xo
+  pub green-green : Green-half f i (outputs f green) zg
+  pub green-own : Green-half f i (outputs f (row-colour (f .phase) i)) x
+  pub green-other : Green-half f i (outputs f (trade (row-colour (f .phase) i))) y
+
+-- of every frame whose differences stand in work
+pub record Differences-formed (shape : Shape) (i : ℕ) (tops work own other x y : List ℤ) : Type 0 where
+  pub row : (zs : List ℕ) → Out-reads (frame shape zs) i tops work → Row-differences (frame shape zs) i own other x y
+
+-- a row of three planes of the shape
+pub record Row-stores (shape : Shape) (i start : ℕ) (red-plane green-plane blue-plane : List ℤ) : Type 0 where
+  pub row : Row-of shape i
+  pub start-is : start ≡ chroma-start (shape .phase) i
+  pub red-size : length red-plane ≡ shape .height * shape .width
+  pub green-size : length green-plane ≡ shape .height * shape .width
+  pub blue-size : length blue-plane ≡ shape .height * shape .width
+
+-- of every frame whose outputs stand in the half rows
+pub record Plane-row (shape : Shape) (i : ℕ) (c : Colour) (zx zg xg xo x y old new : List ℤ) : Type 0 where
+  pub row : (zs : List ℕ) → Row-outputs (frame shape zs) i zx zg xg xo x y
+      → Wrote (pos 0) (i * shape .width) (shape .width) (outputs (frame shape zs) c i) old new

@@ -1,0 +1,166 @@
+-- From both differences of a row to its outputs. Assumes nothing.
+use mathlib.Core.Path.{_≡_, refl, sym, _∙_, ap}
+use mathlib.Core.Bool.{false}
+use mathlib.Core.List.{List}
+use Prim.Native.Nat.{ℕ, _+_, _*_, _-_, _%_, _<_, _≤_}
+use native.Mathlib.Nat.{le-trans}
+use native.Mathlib.Omega.{arith}
+use lib.Dec.{lit≤}
+use lib.IntN.{ℤ, pos, natAbs, _+ℤ_, _-ℤ_, _*ℤ_}
+use lib.ListN.{getD}
+use Rattle.toolkit.specs.Entries.{Entries}
+use Rattle.frame.specs.Sites.{Frame, Colour, red, green, blue, sample}
+use Rattle.frame.specs.Colours.{trade, is-green}
+use Rattle.method.specs.Gradients.{mosaic}
+use Rattle.method.specs.Planes.{colour-difference, final-round}
+use Rattle.method.specs.Sizes.{colour-difference-size}
+use Rattle.positions.specs.Taken.{Taken}
+use Rattle.positions.specs.HalfRows.{chroma-start, chroma-count, Half}
+use Rattle.positions.specs.HalfRowLaws.{chroma-small}
+use Rattle.records.specs.Quantities.{finals, others, outputs}
+use Rattle.mosaic_rows.specs.LoadedRows.{Loaded}
+use Rattle.out_rows.specs.DirectMeans.{Bounded}
+use Rattle.out_stage.specs.RowColours.{row-colour, row-not-green, chroma-colour, second-half-green}
+use Rattle.out_stage.specs.SiteOutputs.{measured-output, green-output, other-output, missing-output, other-difference}
+use Rattle.out_stage.specs.DirectDifferences.{finals-size, others-size}
+use Rattle.out_stage.specs.DirectReads.{trade-twice}
+use Rattle.out_stage.specs.RowDifferences.{chroma-columns, green-columns}
+use Rattle.out_stage.specs.OutRows.{Green-half, Row-differences, Row-outputs}
+use Rattle.out_stage.specs.HalfLaws.{half-as, half-same, half-of-three, half-bounded, samples-half}
+
+traded-not-green : (c : Colour) → is-green c ≡ false → is-green (trade c) ≡ false
+traded-not-green red e = refl
+traded-not-green green e = e
+traded-not-green blue e = refl
+
+-- ---- a site of the row
+module _ (f : Frame) (i j : ℕ) where
+  abbrev own : Colour
+  own = row-colour (f .phase) i
+
+  -- red and blue sites
+  module _ (site : j % 2 ≡ chroma-start (f .phase) i) where
+    chroma-measured : pos (sample f i j) ≡ outputs f own i j
+    unfolding outputs mosaic
+    chroma-measured = measured-output (mosaic f) own i j (chroma-colour (f .phase) i j site)
+
+    chroma-green : final-round (finals f i j +ℤ pos 4 *ℤ pos (sample f i j)) ≡ outputs f green i j
+    unfolding outputs finals mosaic
+    chroma-green = green-output (mosaic f) i j (ap is-green (chroma-colour (f .phase) i j site) ∙ row-not-green (f .phase) i)
+
+    chroma-other : final-round (finals f i j +ℤ pos 4 *ℤ pos (sample f i j) -ℤ others f i j) ≡ outputs f (trade own) i j
+    unfolding outputs finals mosaic
+    chroma-other =
+        let e = chroma-colour (f .phase) i j site ∙ trade-twice own in
+        ap (λ (o : ℤ). final-round (finals f i j +ℤ pos 4 *ℤ pos (sample f i j) -ℤ o)) (other-difference f (trade own) i j e)
+        ∙ other-output (mosaic f) (trade own) i j (traded-not-green own (row-not-green (f .phase) i)) e
+
+  -- green sites
+  module _ (site : ¬ (j % 2 ≡ chroma-start (f .phase) i)) where
+    green-measured : pos (sample f i j) ≡ outputs f green i j
+    unfolding outputs mosaic
+    green-measured = measured-output (mosaic f) green i j (second-half-green (f .phase) i j site)
+
+    green-missing : (c : Colour) → is-green c ≡ false → final-round (pos 4 *ℤ pos (sample f i j) -ℤ colour-difference (mosaic f) c i j) ≡ outputs f c i j
+    unfolding outputs mosaic
+    green-missing c h = missing-output (mosaic f) c i j h (second-half-green (f .phase) i j site)
+
+-- ---- the row, whose first half starts at column c and has n sites, its second m
+module _ (f : Frame) (i c n m : ℕ) (t : Taken f) (inside : i < f .height) (ec : c ≡ chroma-start (f .phase) i) (en : n ≡ chroma-count f i)
+    (em : m ≡ f .width - chroma-count f i) (rows : List ℕ) (loaded : Loaded f i 28784 rows) (own other zx zg x y : List ℤ)
+    (d : Row-differences f i own other x y)
+    (sx : Entries (pos 0) 2064 4 (n + 4) (λ (k : ℕ). pos (getD rows (28784 + (c + 2 * (k - 4) + 8)) 0)) zx)
+    (sg : Entries (pos 0) 2064 4 (m + 4) (λ (k : ℕ). pos (getD rows (28784 + (1 - c + 2 * (k - 4) + 8)) 0)) zg) where
+  abbrev measured : ℕ → ℤ
+  measured j = pos (sample f i j)
+
+  abbrev difference : Colour → ℕ → ℤ
+  difference k = colour-difference (mosaic f) k i
+
+  even : 1 - chroma-start (f .phase) i ≡ 1 - c
+  even = ap (λ (k : ℕ). 1 - k) (sym ec)
+
+  first : (q : ℕ → ℤ) {row : List ℤ} → Half (f .width) (chroma-start (f .phase) i) 4 (chroma-count f i + 4) q row → Half (f .width) c 4 (n + 4) q row
+  first q h = half-as (f .width) q (sym ec) (sym en) h
+
+  second : (q : ℕ → ℤ) {row : List ℤ} → Half (f .width) (1 - chroma-start (f .phase) i) 4 (f .width - chroma-count f i + 4) q row
+      → Half (f .width) (1 - c) 4 (m + 4) q row
+  second q h = half-as (f .width) q even (sym em) h
+
+  own-half : Half (f .width) c 4 (n + 4) (finals f i) own
+  own-half = first (finals f i) (d .chroma-own)
+
+  other-half : Half (f .width) c 4 (n + 4) (others f i) other
+  other-half = first (others f i) (d .chroma-other)
+
+  zx-half : Half (f .width) c 4 (n + 4) measured zx
+  zx-half = samples-half f i 28784 c n loaded (λ k l. rw ec (chroma-columns f i k (rw (← en) l))) sx
+
+  zg-half : Half (f .width) (1 - c) 4 (m + 4) measured zg
+  zg-half = samples-half f i 28784 (1 - c) m loaded (λ k l. rw ec (green-columns f i k (t .wide) (rw (← em) l))) sg
+
+  sample-size : (j : ℕ) → natAbs (measured j) ≤ 4096
+  unfolding sample
+  sample-size j = le-trans (t .ranged _) (lit≤ tt)
+
+  difference-size : (k : Colour) (j : ℕ) → j < f .width → natAbs (difference k j) ≤ 4096
+  difference-size k j h = le-trans (colour-difference-size f (t .tall) (t .wide) (t .ranged) k i j inside h) (lit≤ tt)
+
+  difference-bounded : (k : Colour) {row : List ℤ} → Green-half f i (colour-difference (mosaic f) k) row → Bounded 4096 m row
+  difference-bounded k h = half-bounded (f .width) (1 - c) (t .wide) 4096 m (difference k) (difference-size k) (second (difference k) h)
+
+  -- what the loops ask
+  pub chroma-bounded : (Bounded 4096 n own) × (Bounded 4096 n other) × (Bounded 4096 n zx)
+  chroma-bounded = (
+    half-bounded (f .width) c (t .wide) 4096 n (finals f i) (λ j h. finals-size f t i j inside h) own-half,
+    half-bounded (f .width) c (t .wide) 4096 n (others f i) (λ j h. others-size f t i j inside h) other-half,
+    half-bounded (f .width) c (t .wide) 4096 n measured (λ j h. sample-size j) zx-half,
+  )
+
+  pub green-bounded : (Bounded 4096 m zg) × (Bounded 4096 m x) × (Bounded 4096 m y)
+  green-bounded = (
+    half-bounded (f .width) (1 - c) (t .wide) 4096 m measured (λ j h. sample-size j) zg-half,
+    difference-bounded (row-colour (f .phase) i) (d .green-own),
+    difference-bounded (trade (row-colour (f .phase) i)) (d .green-other),
+  )
+
+  first-site : (j : ℕ) → j % 2 ≡ c % 2 → j % 2 ≡ chroma-start (f .phase) i
+  first-site j e = omega (arith, chroma-small (f .phase) i)
+
+  second-site : (j : ℕ) → j % 2 ≡ (1 - c) % 2 → ¬ (j % 2 ≡ chroma-start (f .phase) i)
+  second-site j e h = omega (arith, chroma-small (f .phase) i)
+
+  first-told : (q q' : ℕ → ℤ) {row : List ℤ} → ((j : ℕ) → j % 2 ≡ chroma-start (f .phase) i → q j ≡ q' j) → Half (f .width) c 4 (n + 4) q row
+      → Half (f .width) (chroma-start (f .phase) i) 4 (chroma-count f i + 4) q' row
+  first-told q q' same h = half-as (f .width) q' ec en (half-same (f .width) c (t .wide) (λ j l e. same j (first-site j e)) h)
+
+  second-told : (q q' : ℕ → ℤ) {row : List ℤ} → ((j : ℕ) → ¬ (j % 2 ≡ chroma-start (f .phase) i) → q j ≡ q' j) → Half (f .width) (1 - c) 4 (m + 4) q row
+      → Half (f .width) (1 - chroma-start (f .phase) i) 4 (f .width - chroma-count f i + 4) q' row
+  second-told q q' same h = half-as (f .width) q' (sym even) em (half-same (f .width) (1 - c) (t .wide) (λ j l e. same j (second-site j e)) h)
+
+  -- a colour at the green sites
+  missing : (k : Colour) (before after : List ℤ) → is-green k ≡ false → Green-half f i (colour-difference (mosaic f) k) before
+      → Entries (pos 0) 2064 4 (m + 4) (λ (v : ℕ). final-round (pos 4 *ℤ getD zg v (pos 0) -ℤ getD before v (pos 0))) after
+      → Green-half f i (outputs f k) after
+  missing k before after h b e = second-told _ (outputs f k i) (λ j site. green-missing f i j site k h)
+      (half-of-three (f .width) (1 - c) (t .wide) (λ (z v w : ℤ). final-round (pos 4 *ℤ z -ℤ v)) measured (difference k) measured zg-half
+      (second (difference k) b) zg-half e)
+
+  pub outputs-are : (xg xo x' y' : List ℤ)
+      → Entries (pos 0) 2064 4 (n + 4) (λ (k : ℕ). final-round (getD own k (pos 0) +ℤ pos 4 *ℤ getD zx k (pos 0))) xg
+      → Entries (pos 0) 2064 4 (n + 4) (λ (k : ℕ). final-round (getD own k (pos 0) +ℤ pos 4 *ℤ getD zx k (pos 0) -ℤ getD other k (pos 0))) xo
+      → Entries (pos 0) 2064 4 (m + 4) (λ (k : ℕ). final-round (pos 4 *ℤ getD zg k (pos 0) -ℤ getD x k (pos 0))) x'
+      → Entries (pos 0) 2064 4 (m + 4) (λ (k : ℕ). final-round (pos 4 *ℤ getD zg k (pos 0) -ℤ getD y k (pos 0))) y'
+      → Row-outputs f i zx zg xg xo x' y'
+  outputs-are xg xo x' y' eg eo ex ey = record {
+    chroma-own = first-told _ _ (λ j site. chroma-measured f i j site) zx-half;
+    chroma-green = first-told _ (outputs f green i) (λ j site. chroma-green f i j site)
+        (half-of-three (f .width) c (t .wide) (λ (a z o : ℤ). final-round (a +ℤ pos 4 *ℤ z)) (finals f i) measured (others f i)
+        own-half zx-half other-half eg);
+    chroma-other = first-told _ (outputs f (trade (row-colour (f .phase) i)) i) (λ j site. chroma-other f i j site)
+        (half-of-three (f .width) c (t .wide) (λ (a z o : ℤ). final-round (a +ℤ pos 4 *ℤ z -ℤ o)) (finals f i) measured (others f i)
+        own-half zx-half other-half eo);
+    green-green = second-told _ _ (λ j site. green-measured f i j site) zg-half;
+    green-own = missing (row-colour (f .phase) i) x x' (row-not-green (f .phase) i) (d .green-own) ex;
+    green-other = missing (trade (row-colour (f .phase) i)) y y' (traded-not-green (row-colour (f .phase) i) (row-not-green (f .phase) i)) (d .green-other) ey;
+  }

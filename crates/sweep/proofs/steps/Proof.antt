@@ -1,0 +1,76 @@
+use mathlib.Core.Path.{_∙_, sym}
+use Prim.Native.Nat.{_+_, _-_, _≤_}
+use native.Mathlib.Omega.{arith}
+use Rattle.frame.specs.Sites.{frame}
+use Rattle.sweep.specs.Invariant.{Sweep}
+use Rattle.sweep.specs.Scratch.{Row-arrays, Half-arrays}
+use Rattle.sweep.specs.End.{sweep-all}
+use Rattle.sweep.proofs.steps.Statement.{statement}
+use Rattle.sweep.proofs.steps.Tie as tie
+
+abbrev Inv-loop : tie.InvT-loop
+Inv-loop mosaic shape rows₀ alongs₀ v₀ n₀ a₀ b₀ d₀ e₀ f₀ g₀ l₀ m₀ tops₀ work₀ red₀ green₀ blue₀ h t₀ rows alongs v n a b d e f g l m tops work red green blue t =
+    (t ≤ h + 20) × Sweep (frame shape mosaic) t t t t t tops work red green blue × Row-arrays rows alongs v × Half-arrays n a b d e f g l m
+
+abbrev μ-loop : tie.MeasureT-loop
+μ-loop mosaic shape rows₀ alongs₀ v₀ n₀ a₀ b₀ d₀ e₀ f₀ g₀ l₀ m₀ tops₀ work₀ red₀ green₀ blue₀ h t₀ rows alongs v n a b d e f g l m tops work red green blue t =
+    h + 20 - t
+
+loop-holds : tie.Need-loop-holds Inv-loop μ-loop
+loop-holds c = (omega arith, c .before .pre .0, c .before .pre .1 .0, c .before .pre .1 .1)
+
+add-loop : tie.Need-add-loop Inv-loop μ-loop
+add-loop c = omega (arith, c .before .before .pre .0 .buffers .taken .low)
+
+step-requires : tie.Need-step-requires Inv-loop μ-loop
+step-requires c κs =
+    let inv = c .before .before .before .before .before .before .before .before .before .before .before .before .before .before .before .before .before .before .loop .inv in
+    (inv .1, (inv .2, inv .3))
+
+add-t : tie.Need-add-t Inv-loop μ-loop
+add-t c = omega (arith, c .before .before .before .before .before .before .before .before .before .before .before .before .before .before .before .before .before .before .before .before .before .before .before .before .before .before .pre .0 .buffers .taken .low, c .before .before .before .before .before .before .before .before .before .before .before .before .before .before .before .before .before .before .before .before .before .before .before .before .loop .inv .0)
+
+loop-less : tie.Need-loop-less Inv-loop μ-loop
+loop-less c = omega (arith, c .before .before .before .before .before .before .before .before .before .before .before .before .before .before .before .before .before .before .before .before .before .before .before .loop-test .taken)
+
+loop-again : tie.Need-loop-again Inv-loop μ-loop
+loop-again c =
+    let made = c .before .before .before .before .before .step .ensures in
+    (omega (arith, c .before .before .before .before .before .before .before .before .before .before .before .before .before .before .before .before .before .before .before .before .before .before .before .loop-test .taken), made .0, made .1 .0, made .1 .1)
+
+same-length : tie.Need-same-length Inv-loop μ-loop
+same-length c = c .before .loop .inv .1 .buffers .tops-size ∙ sym (c .before .before .before .pre .0 .buffers .tops-size)
+
+same-length-2 : tie.Need-same-length-2 Inv-loop μ-loop
+same-length-2 c = c .before .loop .inv .1 .buffers .work-size ∙ sym (c .before .before .before .pre .0 .buffers .work-size)
+
+same-length-3 : tie.Need-same-length-3 Inv-loop μ-loop
+same-length-3 c = c .before .loop .inv .1 .red-size ∙ sym (c .before .before .before .pre .0 .red-size)
+
+same-length-4 : tie.Need-same-length-4 Inv-loop μ-loop
+same-length-4 c = c .before .loop .inv .1 .green-size ∙ sym (c .before .before .before .pre .0 .green-size)
+
+same-length-5 : tie.Need-same-length-5 Inv-loop μ-loop
+same-length-5 c = c .before .loop .inv .1 .blue-size ∙ sym (c .before .before .before .pre .0 .blue-size)
+
+returns : tie.Need-returns Inv-loop μ-loop
+returns c = sweep-all _ (c .before .loop .t) _ _ _ _ _ (omega (arith, c .loop-test .left, c .before .loop .inv .0)) (c .before .loop .inv .1)
+
+pub steps-spec : {M : Type 1} → statement M
+steps-spec =
+    tie.close
+    (tie.spec
+    Inv-loop
+    μ-loop
+    loop-holds
+    add-loop
+    step-requires
+    add-t
+    loop-less
+    loop-again
+    same-length
+    same-length-2
+    same-length-3
+    same-length-4
+    same-length-5
+    returns)

@@ -1,0 +1,45 @@
+use mathlib.Core.Path.{refl}
+use borrow.Author.Needs.{needs}
+use Rattle.sweep.specs.Steps.{sweep-none}
+use Rattle.sweep.proofs.sweep.Statement.{statement}
+use Rattle.sweep.proofs.sweep.Tie as tie
+
+slice-aggregate-steps : tie.Need-slice-aggregate-steps
+slice-aggregate-steps c = search needs
+
+steps-requires : tie.Need-steps-requires
+steps-requires c κs =
+    let start = c .before .before .before .before .before .before .before .before .before .before .before .before .before .before .before .before .before .before .pre in (
+      sweep-none (record { taken = start .0; tops-size = refl; work-size = start .1 .3 }) (start .1 .0) (start .1 .1) (start .1 .2),
+      (
+        record { rows-size = refl; alongs-size = refl; v-size = refl },
+        record { n-size = refl; a-size = refl; b-size = refl; d-size = refl; e-size = refl; f-size = refl; g-size = refl; l-size = refl; m-size = refl },
+      ),
+    )
+
+same-length : tie.Need-same-length
+same-length c = search needs
+
+same-length-2 : tie.Need-same-length-2
+same-length-2 c = search needs
+
+same-length-3 : tie.Need-same-length-3
+same-length-3 c = search needs
+
+same-length-4 : tie.Need-same-length-4
+same-length-4 c = search needs
+
+returns : tie.Need-returns
+returns c = search needs
+
+pub sweep-spec : {M : Type 1} → statement M
+sweep-spec =
+    tie.close
+    (tie.spec
+    slice-aggregate-steps
+    steps-requires
+    same-length
+    same-length-2
+    same-length-3
+    same-length-4
+    returns)

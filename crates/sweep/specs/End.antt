@@ -1,0 +1,39 @@
+-- The end of the sweep: every row of the planes is stored. Assumes nothing.
+use mathlib.Core.Path.{_≡_, subst}
+use mathlib.Core.List.{List}
+use Prim.Native.Nat.{ℕ, _+_, _*_, _/_, _%_, _<_, _≤_}
+use native.Mathlib.Nat.{div-add-mod', mod-lt, div-lt-iff-lt-mul}
+use native.Mathlib.Omega.{arith}
+use lib.IntN.{ℤ, pos}
+use lib.ListN.{length, getD}
+use Rattle.toolkit.specs.Raster.{raster}
+use Rattle.toolkit.specs.Tables.{is-tabulate}
+use Rattle.frame.specs.Sites.{Frame, Colour}
+use Rattle.method.specs.Planes.{plane}
+use Rattle.positions.specs.Taken.{Taken}
+use Rattle.records.specs.Held.{Held}
+use Rattle.records.specs.TurnLaws.{held-part}
+use Rattle.records.specs.Quantities.{outputs}
+use Rattle.records.specs.Stages.{Plane-size}
+use Rattle.sweep.specs.Invariant.{Sweep, Shown}
+
+held-all : (H W : ℕ) (q : ℕ → ℕ → ℤ) (buffer : List ℤ) → 2 ≤ W → length buffer ≡ H * W → Held W 0 (λ r. W) 0 H q buffer
+    → buffer ≡ raster H W q
+unfolding raster
+held-all H W q buffer wide size h = is-tabulate (H * W) (λ (k : ℕ). q (k / W) (k % W)) buffer (pos 0) size (λ k l.
+    let e : k / W * W + 0 + k % W ≡ k = omega (arith, div-add-mod' k W) in
+    subst (λ (x : ℕ). getD buffer x (pos 0) ≡ q (k / W) (k % W)) e
+    (h .row (k / W) (omega arith) (div-lt-iff-lt-mul {k = W} {x = k} {y = H} (omega arith) .1 l) (k % W) (mod-lt k (omega arith))))
+
+shown-all : (f : Frame) (t : ℕ) (c : Colour) (buffer : List ℤ) → Taken f → t ≡ f .height + 20 → Plane-size f buffer → Shown f t c buffer
+    → buffer ≡ plane f c
+unfolding plane outputs
+shown-all f t c buffer taken e size h = held-all (f .height) (f .width) (outputs f c) buffer (taken .wide) size (held-part h (omega arith) (omega arith))
+
+pub sweep-all : (f : Frame) (t : ℕ) (tops work red green blue : List ℤ) → t ≡ f .height + 20 → Sweep f t t t t t tops work red green blue
+    → (red ≡ plane f Colour.red) × (green ≡ plane f Colour.green) × (blue ≡ plane f Colour.blue)
+sweep-all f t tops work red green blue e s = (
+  shown-all f t Colour.red red (s .buffers .taken) e (s .red-size) (s .reds),
+  shown-all f t Colour.green green (s .buffers .taken) e (s .green-size) (s .greens-shown),
+  shown-all f t Colour.blue blue (s .buffers .taken) e (s .blue-size) (s .blues),
+)
