@@ -6,6 +6,9 @@
 #include <stddef.h>
 #include <stdint.h>
 
+/* A call takes at most this many bytes of the caller's stack. */
+#define BAYER_STACK_BYTES 262144
+
 /* W, H and the phase of a frame. */
 struct bayer_shape {
     size_t width;

@@ -1,6 +1,7 @@
 //! The proved library's calls as safe functions. Each export refuses what it does not admit, so every input may be given.
 
 pub mod guarded;
+pub mod stack;
 
 use reference::calls::Refusal;
 use reference::frame_file::Description;
