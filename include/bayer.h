@@ -6,6 +6,9 @@
 #include <stddef.h>
 #include <stdint.h>
 
+/* A call takes at most this many bytes of the caller's stack. */
+#define BAYER_STACK_BYTES 262144
+
 /* W, H and the phase of a frame. */
 struct bayer_shape {
     size_t width;
@@ -35,13 +38,13 @@ struct bayer_read_returned bayer_read(const uint8_t *file, size_t file_length, u
 struct bayer_returned bayer_write(struct bayer_shape shape, const uint16_t *mosaic, size_t mosaic_length, uint8_t *file,
                                   size_t file_length);
 
-/* Develops a frame: mosaic, red, green and blue have exactly W*H entries, work has 4*W*H or more. After success work may hold
-   anything. */
+/* Develops a frame into red, green and blue, unclamped. The mosaic and the planes have exactly W*H entries, work has 4*W*H or more;
+   after success work may hold anything. */
 struct bayer_returned bayer_develop(struct bayer_shape shape, const uint16_t *mosaic, size_t mosaic_length, int32_t *red,
                                     size_t red_length, int32_t *green, size_t green_length, int32_t *blue, size_t blue_length,
                                     int32_t *work, size_t work_length);
 
-/* Fills clamped with the numbers of plane, each held to 0..1,023; both have the same length. */
+/* Fills clamped with each value of plane held to 0..1,023; both have the same length. */
 struct bayer_returned bayer_clamp(const int32_t *plane, size_t plane_length, int32_t *clamped, size_t clamped_length);
 
 #endif

@@ -1,24 +1,12 @@
-/* The exports called from C: a frame is written, compared with the example file, and read back; refusals leave the buffers.
-   The last line is 'N passed, M failed'. */
+/* bayer_write and bayer_read called from C: a frame is written, compared with the example file, and read back; refusals leave the
+   buffers. */
 #include <stdio.h>
 #include <string.h>
 
 #include "bayer.h"
+#include "expect.h"
 
 enum { FILE_LENGTH = 1024 };
-
-static int passed;
-static int failed;
-
-static void expect(int holds, const char *what)
-{
-    if (holds) {
-        passed++;
-    } else {
-        failed++;
-    }
-    printf("%s: %s\n", holds ? "ok" : "FAILED", what);
-}
 
 static int all_bytes(const uint8_t *bytes, size_t count, uint8_t value)
 {
@@ -90,6 +78,5 @@ int main(int count, char **words)
     writes_the_example(count > 1 ? words[1] : "", file);
     reads_it_back(file);
     refuses(file);
-    printf("%d passed, %d failed\n", passed, failed);
-    return failed == 0 ? 0 : 1;
+    return expected();
 }

@@ -1,5 +1,8 @@
 //! The proved library's calls as safe functions. Each export refuses what it does not admit, so every input may be given.
 
+pub mod guarded;
+pub mod stack;
+
 use reference::calls::Refusal;
 use reference::frame_file::Description;
 
@@ -56,6 +59,27 @@ extern "C" {
         file: *mut u8,
         file_length: usize,
     ) -> Returned;
+
+    fn bayer_develop(
+        shape: Shape,
+        mosaic: *const u16,
+        mosaic_length: usize,
+        red: *mut i32,
+        red_length: usize,
+        green: *mut i32,
+        green_length: usize,
+        blue: *mut i32,
+        blue_length: usize,
+        work: *mut i32,
+        work_length: usize,
+    ) -> Returned;
+
+    fn bayer_clamp(
+        plane: *const i32,
+        plane_length: usize,
+        clamped: *mut i32,
+        clamped_length: usize,
+    ) -> Returned;
 }
 
 /// Success, or the refusal of that number and place.
@@ -110,6 +134,54 @@ pub fn write(
             mosaic.len(),
             file.as_mut_ptr(),
             file.len(),
+        )
+    };
+    answer(returned.number, returned.place, ())
+}
+
+#[allow(clippy::too_many_arguments)] // the document lends all of these
+pub fn develop(
+    width: usize,
+    height: usize,
+    phase: usize,
+    mosaic: &[u16],
+    red: &mut [i32],
+    green: &mut [i32],
+    blue: &mut [i32],
+    work: &mut [i32],
+) -> Result<(), Refusal> {
+    let shape = Shape {
+        width,
+        height,
+        phase,
+    };
+    // Each slice is lent with its own length.
+    let returned = unsafe {
+        bayer_develop(
+            shape,
+            mosaic.as_ptr(),
+            mosaic.len(),
+            red.as_mut_ptr(),
+            red.len(),
+            green.as_mut_ptr(),
+            green.len(),
+            blue.as_mut_ptr(),
+            blue.len(),
+            work.as_mut_ptr(),
+            work.len(),
+        )
+    };
+    answer(returned.number, returned.place, ())
+}
+
+pub fn clamp(plane: &[i32], clamped: &mut [i32]) -> Result<(), Refusal> {
+    // Both slices are lent with their own lengths.
+    let returned = unsafe {
+        bayer_clamp(
+            plane.as_ptr(),
+            plane.len(),
+            clamped.as_mut_ptr(),
+            clamped.len(),
         )
     };
     answer(returned.number, returned.place, ())

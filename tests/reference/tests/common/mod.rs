@@ -228,8 +228,8 @@ pub fn must_refuse(mut lent: impl Call, number: u32, place: usize) {
     assert_eq!(lent, before);
 }
 
-/// The call with one thing changed.
-pub fn with<C: Call>(lent: &C, change: impl Fn(&mut C)) -> C {
+/// What is lent to a call, with one thing changed.
+pub fn with<C: Clone>(lent: &C, change: impl Fn(&mut C)) -> C {
     let mut changed = lent.clone();
     change(&mut changed);
     changed

@@ -1,0 +1,74 @@
+/* bayer_develop and bayer_clamp called from C: the document's frame, its planes clamped, refusals that leave the buffers. */
+#include <string.h>
+
+#include "bayer.h"
+#include "expect.h"
+
+enum { COUNT = 4, WORK = 4 * COUNT };
+
+static const struct bayer_shape shape = {2, 2, 0};
+static const uint16_t mosaic[COUNT] = {100, 40, 61, 200};
+
+/* The planes and the work buffer that are lent to develop. */
+struct lent {
+    int32_t red[COUNT], green[COUNT], blue[COUNT], work[WORK];
+};
+
+static struct bayer_returned develop(struct bayer_shape of, const uint16_t *samples, struct lent *lent, size_t work)
+{
+    return bayer_develop(of, samples, COUNT, lent->red, COUNT, lent->green, COUNT, lent->blue, COUNT, lent->work, work);
+}
+
+static int is(struct bayer_returned returned, size_t number, size_t place)
+{
+    return returned.number == number && returned.place == place;
+}
+
+static void develops_the_example(void)
+{
+    const int32_t red[COUNT] = {100, 90, 111, 100};
+    const int32_t green[COUNT] = {51, 40, 61, 51};
+    const int32_t blue[COUNT] = {200, 190, 211, 200};
+    struct lent lent;
+    memset(&lent, 0xa5, sizeof lent);
+    expect(is(develop(shape, mosaic, &lent, WORK), 0, 0), "develop returns 0, 0");
+    expect(memcmp(lent.red, red, sizeof red) == 0, "the red plane of the example");
+    expect(memcmp(lent.green, green, sizeof green) == 0, "the green plane of the example");
+    expect(memcmp(lent.blue, blue, sizeof blue) == 0, "the blue plane of the example");
+}
+
+static void refuses(void)
+{
+    const uint16_t bright[COUNT] = {100, 40, 1024, 1025};
+    const struct bayer_shape narrow = {1, 2, 9};
+    const struct bayer_shape phase_4 = {2, 2, 4};
+    const struct bayer_shape wide = {3, 2, 0};
+    struct lent lent, before;
+    memset(&lent, 0xa5, sizeof lent);
+    memcpy(&before, &lent, sizeof lent);
+    expect(is(develop(narrow, bright, &lent, 3), 1, 0), "develop tests the size first: 1, 0");
+    expect(is(develop(phase_4, bright, &lent, 3), 2, 0), "then the phase: 2, 0");
+    expect(is(develop(wide, bright, &lent, 3), 3, 0), "then the mosaic's length: 3, 0");
+    expect(is(develop(shape, bright, &lent, WORK - 1), 4, 0), "then the other lengths: 4, 0");
+    expect(is(develop(shape, bright, &lent, WORK), 5, 2), "then the samples: 5 and the place of the first");
+    expect(memcmp(&lent, &before, sizeof lent) == 0, "a refused develop leaves every buffer");
+}
+
+static void clamps(void)
+{
+    const int32_t plane[5] = {INT32_MIN, -1, 512, 1024, INT32_MAX};
+    const int32_t held[5] = {0, 0, 512, 1023, 1023};
+    int32_t clamped[5] = {7, 7, 7, 7, 7};
+    expect(is(bayer_clamp(plane, 5, clamped, 4), 4, 0), "clamp refuses lengths that differ: 4, 0");
+    expect(clamped[0] == 7 && clamped[4] == 7, "a refused clamp leaves the plane");
+    expect(is(bayer_clamp(plane, 5, clamped, 5), 0, 0), "clamp returns 0, 0");
+    expect(memcmp(clamped, held, sizeof held) == 0, "each value is held to 0..1,023");
+}
+
+int main(void)
+{
+    develops_the_example();
+    refuses();
+    clamps();
+    return expected();
+}

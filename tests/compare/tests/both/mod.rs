@@ -1,0 +1,83 @@
+//! One call of develop given to both implementations.
+#![allow(dead_code)] // each test file uses a part
+
+use crate::common::lent::Lent;
+use crate::common::{Developed, Generator};
+use compare::guarded::{Guarded, Touching};
+use reference::calls::{self, Refusal};
+use reference::sites::Frame;
+
+/// Gives the call to the proved library, with every buffer between inaccessible pages, and takes what it leaves.
+pub fn library_develop(lent: &mut Lent, touching: Touching) -> Result<(), Refusal> {
+    let mosaic = Guarded::new(&lent.mosaic, touching);
+    let mut red = Guarded::new(&lent.red, touching);
+    let mut green = Guarded::new(&lent.green, touching);
+    let mut blue = Guarded::new(&lent.blue, touching);
+    let mut work = Guarded::new(&lent.work, touching);
+    let (width, height, phase) = (lent.width, lent.height, lent.phase);
+    let answer = compare::develop(
+        width, height, phase, &mosaic, &mut red, &mut green, &mut blue, &mut work,
+    );
+    assert!(mosaic.canaries_stand(), "beside the mosaic");
+    for buffer in [&red, &green, &blue, &work] {
+        assert!(buffer.canaries_stand(), "beside a plane or work");
+    }
+    lent.mosaic.copy_from_slice(&mosaic);
+    lent.red.copy_from_slice(&red);
+    lent.green.copy_from_slice(&green);
+    lent.blue.copy_from_slice(&blue);
+    lent.work.copy_from_slice(&work);
+    answer
+}
+
+fn reference_develop(lent: &mut Lent) -> Result<(), Refusal> {
+    calls::develop(
+        lent.width,
+        lent.height,
+        lent.phase,
+        &lent.mosaic,
+        &mut lent.red,
+        &mut lent.green,
+        &mut lent.blue,
+        &mut lent.work,
+    )
+}
+
+/// Both must answer alike and leave alike every entry of every buffer, but for work after success. `at` names the call in a failure.
+pub fn both_develop(at: &str, lent: &Lent) -> Result<(), Refusal> {
+    let mut expected = lent.clone();
+    let expected_answer = reference_develop(&mut expected);
+    for touching in [Touching::Before, Touching::After] {
+        let mut left = lent.clone();
+        let answer = library_develop(&mut left, touching);
+        let (width, height, phase) = (lent.width, lent.height, lent.phase);
+        let at = format!("{at}: {width} x {height}, phase {phase}, touching {touching:?}");
+        assert_eq!(answer, expected_answer, "{at}");
+        if answer.is_ok() {
+            left.work.clone_from(&expected.work);
+        } else {
+            assert!(left == *lent, "{at}: a refusal leaves every buffer");
+        }
+        assert!(left == expected, "{at}: the buffers");
+    }
+    expected_answer
+}
+
+/// Develops an accepted frame by both, into buffers that hold anything.
+pub fn both_accept(at: &str, generator: &mut Generator, frame: &Frame) {
+    let more = generator.one_of(&[0, 0, 1, 77]);
+    let lent = Lent::new(generator, frame, more);
+    assert_eq!(both_develop(at, &lent), Ok(()), "{at}");
+}
+
+/// The planes that the library fills, from buffers that hold something else.
+pub fn library_developed(frame: &Frame) -> Developed {
+    let mut lent = Lent::new(&mut Generator::new(90), frame, 0);
+    let answer = library_develop(&mut lent, Touching::After);
+    assert_eq!(answer, Ok(()), "{frame:?}");
+    Developed {
+        red: lent.red,
+        green: lent.green,
+        blue: lent.blue,
+    }
+}
