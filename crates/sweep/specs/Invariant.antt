@@ -10,7 +10,7 @@ use Rattle.records.specs.Held.{Held}
 use Rattle.records.specs.Layout.{record-size, final-part, other-part}
 use Rattle.records.specs.Quantities.{trials, greens, finals, others, outputs}
 use Rattle.records.specs.Stages.{Gradients, Plane-size}
-use Rattle.sweep.specs.Distances.{Buffers, Chroma-held}
+use Rattle.stage_turns.specs.Distances.{Buffers, Chroma-held}
 
 -- the planes' rows that out has stored; the numbers of earlier stages stand in the rows that it has not reached
 abbrev pub Shown : Frame → ℕ → Colour → List ℤ → Type 0

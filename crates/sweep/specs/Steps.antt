@@ -16,7 +16,7 @@ use Rattle.records.specs.Layout.{record-size, gradient-size, final-part, other-
 use Rattle.records.specs.Turns.{Turn}
 use Rattle.records.specs.TurnLaws.{held-none, held-part, turn-size, turn-next, turn-past, turn-beside, turn-behind, turn-over}
 use Rattle.records.specs.Stages.{Gradients, Plane-size}
-use Rattle.sweep.specs.Distances.{Buffers, Chroma-turn, First-turned, Second-turned, Enhance-turned, Diagonal-turned, Out-turn}
+use Rattle.stage_turns.specs.Distances.{Buffers, Chroma-turn, First-turned, Second-turned, Enhance-turned, Diagonal-turned, Out-turn}
 use Rattle.sweep.specs.Invariant.{Sweep}
 use Rattle.sweep.specs.Reads.{second-asks, enhance-asks, diagonal-asks}
 

@@ -1,20 +1,39 @@
+-- `sweep::step` meets its contract: the turns one after the other, each with what the invariant then gives it. Assumes nothing.
 use mathlib.Core.Path.{_∙_, sym}
 use Rattle.sweep.specs.Reads.{first-asks, second-asks, enhance-asks, diagonal-asks, out-asks}
 use Rattle.sweep.specs.Steps.{after-first, after-second, after-enhance, after-diagonal, step-made}
 use Rattle.sweep.proofs.step.Statement.{statement}
 use Rattle.sweep.proofs.step.Tie as tie
 
+-- ---- from a place to the call before it
+
+abbrev start-of : tie.After-first-turn → tie.Start
+start-of c = c .before .before .before .before .before .before .before .before .before .before .before .before
+
+abbrev first-of : tie.After-second-turn → tie.After-first-turn
+first-of c = c .before .before .before .before .before .before .before .before .before .before .before .before .before .before
+
+abbrev second-of : tie.After-enhance-turn → tie.After-second-turn
+second-of c = c .before .before .before .before .before .before .before .before
+
+abbrev enhance-of : tie.After-diagonal-turn → tie.After-enhance-turn
+enhance-of c = c .before .before .before .before .before .before .before .before
+
+abbrev diagonal-of : tie.After-out-turn → tie.After-diagonal-turn
+diagonal-of c = c .before .before .before .before .before .before .before .before .before .before .before .before .before .before .before .before .before
+
 first-turn-requires : tie.Need-first-turn-requires
 first-turn-requires c κs =
     let start = c .before .before .before .before .before .before .before .before .before .before .before .pre in
+    let rows = start .1 .0 in
     let sizes = start .1 .1 in (
       first-asks (start .0),
       (
         (start .0 .red-size, start .0 .blue-size),
         record {
-          rows-size = start .1 .0 .rows-size;
-          alongs-size = start .1 .0 .alongs-size;
-          v-size = start .1 .0 .v-size;
+          rows-size = rows .rows-size;
+          alongs-size = rows .alongs-size;
+          v-size = rows .v-size;
           n-size = sizes .n-size;
           a-size = sizes .a-size;
           b-size = sizes .b-size;
@@ -24,96 +43,137 @@ first-turn-requires c κs =
 
 second-turn-requires : tie.Need-second-turn-requires
 second-turn-requires c κs =
-    let start = c .before .before .before .before .before .before .before .before .before .before .before .before .before .before .before .before .before .before .before .before .before .before .before .before .before .pre in
-    let first = c .before .before .before .before .before .before .before .before .before .before .before .before .before .first-turn .ensures in
-    let sizes = start .1 .1 in (
-      record { samples = _; holds = second-asks (after-first (start .0) (first .0)) },
-      (
-        start .0 .green-size,
-        (first .1 .a-size, first .1 .b-size, sizes .d-size, sizes .e-size, sizes .f-size, sizes .g-size),
-      ),
+    let first = c .before .before .before .before .before .before .before .before .before .before .before .before .before in
+    let start = start-of first in
+    let made = first .first-turn .ensures in
+    let sizes = start .pre .1 .1 in (
+      record { samples = _; holds = second-asks (after-first (start .pre .0) (made .0)) },
+      (start .pre .0 .green-size, (made .1 .a-size, made .1 .b-size, sizes .d-size, sizes .e-size, sizes .f-size, sizes .g-size)),
     )
 
 enhance-turn-requires : tie.Need-enhance-turn-requires
 enhance-turn-requires c κs =
-    let start = c .before .before .before .before .before .before .before .before .before .before .before .before .before .before .before .before .before .before .before .before .before .before .before .before .before .before .before .before .before .before .before .before .before .pre in
-    let first = c .before .before .before .before .before .before .before .before .before .before .before .before .before .before .before .before .before .before .before .before .before .first-turn .ensures in
-    let second = c .before .before .before .before .before .before .before .second-turn .ensures in (
-      record { samples = _; holds = enhance-asks (after-second (after-first (start .0) (first .0)) (second .0)) },
-      (first .1 .n-size, second .1 .0, second .1 .1),
-    )
+    let second = c .before .before .before .before .before .before .before in
+    let first = first-of second in
+    let now = after-second (after-first (start-of first .pre .0) (first .first-turn .ensures .0)) (second .second-turn .ensures .0) in
+    let sizes = second .second-turn .ensures .1 in
+    (record { samples = _; holds = enhance-asks now }, (first .first-turn .ensures .1 .n-size, sizes .0, sizes .1))
 
 diagonal-turn-requires : tie.Need-diagonal-turn-requires
 diagonal-turn-requires c κs =
-    let start = c .before .before .before .before .before .before .before .before .before .before .before .before .before .before .before .before .before .before .before .before .before .before .before .before .before .before .before .before .before .before .before .before .before .before .before .before .before .before .before .before .before .pre in
-    let first = c .before .before .before .before .before .before .before .before .before .before .before .before .before .before .before .before .before .before .before .before .before .before .before .before .before .before .before .before .before .first-turn .ensures in
-    let second = c .before .before .before .before .before .before .before .before .before .before .before .before .before .before .before .second-turn .ensures in
-    let enhance = c .before .before .before .before .before .before .before .enhance-turn .ensures in (
-      record { samples = _; holds = diagonal-asks (after-enhance (after-second (after-first (start .0) (first .0)) (second .0)) (enhance .0)) },
-      (enhance .1 .0, enhance .1 .1, enhance .1 .2, second .1 .2),
+    let enhance = c .before .before .before .before .before .before .before in
+    let second = second-of enhance in
+    let first = first-of second in
+    let now = after-second (after-first (start-of first .pre .0) (first .first-turn .ensures .0)) (second .second-turn .ensures .0) in
+    let sizes = enhance .enhance-turn .ensures .1 in (
+      record { samples = _; holds = diagonal-asks (after-enhance now (enhance .enhance-turn .ensures .0)) },
+      (sizes .0, sizes .1, sizes .2, second .second-turn .ensures .1 .2),
     )
 
 out-turn-requires : tie.Need-out-turn-requires
 out-turn-requires c κs =
-    let start = c .before .before .before .before .before .before .before .before .before .before .before .before .before .before .before .before .before .before .before .before .before .before .before .before .before .before .before .before .before .before .before .before .before .before .before .before .before .before .before .before .before .before .before .before .before .before .before .before .before .before .before .before .before .before .before .before .before .before .pre in
-    let first = c .before .before .before .before .before .before .before .before .before .before .before .before .before .before .before .before .before .before .before .before .before .before .before .before .before .before .before .before .before .before .before .before .before .before .before .before .before .before .before .before .before .before .before .before .before .before .first-turn .ensures in
-    let second = c .before .before .before .before .before .before .before .before .before .before .before .before .before .before .before .before .before .before .before .before .before .before .before .before .before .before .before .before .before .before .before .before .second-turn .ensures in
-    let enhance = c .before .before .before .before .before .before .before .before .before .before .before .before .before .before .before .before .before .before .before .before .before .before .before .before .enhance-turn .ensures in
-    let diagonal = c .before .before .before .before .before .before .before .before .before .before .before .before .before .before .before .before .diagonal-turn .ensures in
-    let now = after-diagonal (after-enhance (after-second (after-first (start .0) (first .0)) (second .0)) (enhance .0)) (diagonal .0) in (
-      out-asks now,
+    let diagonal = c .before .before .before .before .before .before .before .before .before .before .before .before .before .before .before .before in
+    let enhance = enhance-of diagonal in
+    let second = second-of enhance in
+    let first = first-of second in
+    let start = start-of first in
+    let now = after-second (after-first (start .pre .0) (first .first-turn .ensures .0)) (second .second-turn .ensures .0) in
+    let last = after-diagonal (after-enhance now (enhance .enhance-turn .ensures .0)) (diagonal .diagonal-turn .ensures .0) in
+    let sizes = diagonal .diagonal-turn .ensures .1 in
+    let sums = second .second-turn .ensures .1 in (
+      out-asks last,
       (
-        (now .red-size, now .green-size, now .blue-size),
+        (last .red-size, last .green-size, last .blue-size),
         (
-          first .1 .rows-size,
-          record { n-size = diagonal .1 .0; a-size = diagonal .1 .1; b-size = diagonal .1 .2; d-size = diagonal .1 .3; e-size = second .1 .3; f-size = second .1 .4; g-size = second .1 .5; l-size = start .1 .1 .l-size; m-size = start .1 .1 .m-size },
+          first .first-turn .ensures .1 .rows-size,
+          record {
+            n-size = sizes .0;
+            a-size = sizes .1;
+            b-size = sizes .2;
+            d-size = sizes .3;
+            e-size = sums .3;
+            f-size = sums .4;
+            g-size = sums .5;
+            l-size = start .pre .1 .1 .l-size;
+            m-size = start .pre .1 .1 .m-size;
+          },
         ),
       ),
     )
 
 same-length : tie.Need-same-length
 same-length c =
-    let out = c .before .before .before .out-turn .ensures in
-    (step-made (c .before .before .before .before .before .before .before .before .before .before .before .before .before .before .before .before .before .before .before .before .before .before .before .before .before .before .before .before .before .before .before .before .before .before .before .before .before .before .before .before .before .before .before .before .before .before .before .before .before .before .before .before .before .before .before .before .before .before .before .before .before .before .pre .0) (c .before .before .before .before .before .before .before .before .before .before .before .before .before .before .before .before .before .before .before .before .before .before .before .before .before .before .before .before .before .before .before .before .before .before .before .before .before .before .before .before .before .before .before .before .before .before .before .before .before .before .first-turn .ensures .0) (c .before .before .before .before .before .before .before .before .before .before .before .before .before .before .before .before .before .before .before .before .before .before .before .before .before .before .before .before .before .before .before .before .before .before .before .before .second-turn .ensures .0)
-    (c .before .before .before .before .before .before .before .before .before .before .before .before .before .before .before .before .before .before .before .before .before .before .before .before .before .before .before .before .enhance-turn .ensures .0) (c .before .before .before .before .before .before .before .before .before .before .before .before .before .before .before .before .before .before .before .before .diagonal-turn .ensures .0) (out .0) (out .1 .0) (out .1 .1 .0)) .buffers .tops-size
-    ∙ sym (c .before .before .before .before .before .before .before .before .before .before .before .before .before .before .before .before .before .before .before .before .before .before .before .before .before .before .before .before .before .before .before .before .before .before .before .before .before .before .before .before .before .before .before .before .before .before .before .before .before .before .before .before .before .before .before .before .before .before .before .before .before .before .pre .0 .buffers .tops-size)
+    let out = c .before .before .before in
+    let diagonal = diagonal-of out in
+    let enhance = enhance-of diagonal in
+    let second = second-of enhance in
+    let first = first-of second in
+    let start = start-of first in
+    (step-made (start .pre .0) (first .first-turn .ensures .0) (second .second-turn .ensures .0) (enhance .enhance-turn .ensures .0)
+    (diagonal .diagonal-turn .ensures .0) (out .out-turn .ensures .0) (out .out-turn .ensures .1 .0) (out .out-turn .ensures .1 .1 .0)) .buffers .tops-size
+    ∙ sym (start .pre .0 .buffers .tops-size)
 
 same-length-2 : tie.Need-same-length-2
 same-length-2 c =
-    let out = c .before .before .before .out-turn .ensures in
-    (step-made (c .before .before .before .before .before .before .before .before .before .before .before .before .before .before .before .before .before .before .before .before .before .before .before .before .before .before .before .before .before .before .before .before .before .before .before .before .before .before .before .before .before .before .before .before .before .before .before .before .before .before .before .before .before .before .before .before .before .before .before .before .before .before .pre .0) (c .before .before .before .before .before .before .before .before .before .before .before .before .before .before .before .before .before .before .before .before .before .before .before .before .before .before .before .before .before .before .before .before .before .before .before .before .before .before .before .before .before .before .before .before .before .before .before .before .before .before .first-turn .ensures .0) (c .before .before .before .before .before .before .before .before .before .before .before .before .before .before .before .before .before .before .before .before .before .before .before .before .before .before .before .before .before .before .before .before .before .before .before .before .second-turn .ensures .0)
-    (c .before .before .before .before .before .before .before .before .before .before .before .before .before .before .before .before .before .before .before .before .before .before .before .before .before .before .before .before .enhance-turn .ensures .0) (c .before .before .before .before .before .before .before .before .before .before .before .before .before .before .before .before .before .before .before .before .diagonal-turn .ensures .0) (out .0) (out .1 .0) (out .1 .1 .0)) .buffers .work-size
-    ∙ sym (c .before .before .before .before .before .before .before .before .before .before .before .before .before .before .before .before .before .before .before .before .before .before .before .before .before .before .before .before .before .before .before .before .before .before .before .before .before .before .before .before .before .before .before .before .before .before .before .before .before .before .before .before .before .before .before .before .before .before .before .before .before .before .pre .0 .buffers .work-size)
+    let out = c .before .before .before in
+    let diagonal = diagonal-of out in
+    let enhance = enhance-of diagonal in
+    let second = second-of enhance in
+    let first = first-of second in
+    let start = start-of first in
+    (step-made (start .pre .0) (first .first-turn .ensures .0) (second .second-turn .ensures .0) (enhance .enhance-turn .ensures .0)
+    (diagonal .diagonal-turn .ensures .0) (out .out-turn .ensures .0) (out .out-turn .ensures .1 .0) (out .out-turn .ensures .1 .1 .0)) .buffers .work-size
+    ∙ sym (start .pre .0 .buffers .work-size)
 
 same-length-3 : tie.Need-same-length-3
 same-length-3 c =
-    let out = c .before .before .before .out-turn .ensures in
-    (step-made (c .before .before .before .before .before .before .before .before .before .before .before .before .before .before .before .before .before .before .before .before .before .before .before .before .before .before .before .before .before .before .before .before .before .before .before .before .before .before .before .before .before .before .before .before .before .before .before .before .before .before .before .before .before .before .before .before .before .before .before .before .before .before .pre .0) (c .before .before .before .before .before .before .before .before .before .before .before .before .before .before .before .before .before .before .before .before .before .before .before .before .before .before .before .before .before .before .before .before .before .before .before .before .before .before .before .before .before .before .before .before .before .before .before .before .before .before .first-turn .ensures .0) (c .before .before .before .before .before .before .before .before .before .before .before .before .before .before .before .before .before .before .before .before .before .before .before .before .before .before .before .before .before .before .before .before .before .before .before .before .second-turn .ensures .0)
-    (c .before .before .before .before .before .before .before .before .before .before .before .before .before .before .before .before .before .before .before .before .before .before .before .before .before .before .before .before .enhance-turn .ensures .0) (c .before .before .before .before .before .before .before .before .before .before .before .before .before .before .before .before .before .before .before .before .diagonal-turn .ensures .0) (out .0) (out .1 .0) (out .1 .1 .0)) .red-size
-    ∙ sym (c .before .before .before .before .before .before .before .before .before .before .before .before .before .before .before .before .before .before .before .before .before .before .before .before .before .before .before .before .before .before .before .before .before .before .before .before .before .before .before .before .before .before .before .before .before .before .before .before .before .before .before .before .before .before .before .before .before .before .before .before .before .before .pre .0 .red-size)
+    let out = c .before .before .before in
+    let diagonal = diagonal-of out in
+    let enhance = enhance-of diagonal in
+    let second = second-of enhance in
+    let first = first-of second in
+    let start = start-of first in
+    (step-made (start .pre .0) (first .first-turn .ensures .0) (second .second-turn .ensures .0) (enhance .enhance-turn .ensures .0)
+    (diagonal .diagonal-turn .ensures .0) (out .out-turn .ensures .0) (out .out-turn .ensures .1 .0) (out .out-turn .ensures .1 .1 .0)) .red-size
+    ∙ sym (start .pre .0 .red-size)
 
 same-length-4 : tie.Need-same-length-4
 same-length-4 c =
-    let out = c .before .before .before .out-turn .ensures in
-    (step-made (c .before .before .before .before .before .before .before .before .before .before .before .before .before .before .before .before .before .before .before .before .before .before .before .before .before .before .before .before .before .before .before .before .before .before .before .before .before .before .before .before .before .before .before .before .before .before .before .before .before .before .before .before .before .before .before .before .before .before .before .before .before .before .pre .0) (c .before .before .before .before .before .before .before .before .before .before .before .before .before .before .before .before .before .before .before .before .before .before .before .before .before .before .before .before .before .before .before .before .before .before .before .before .before .before .before .before .before .before .before .before .before .before .before .before .before .before .first-turn .ensures .0) (c .before .before .before .before .before .before .before .before .before .before .before .before .before .before .before .before .before .before .before .before .before .before .before .before .before .before .before .before .before .before .before .before .before .before .before .before .second-turn .ensures .0)
-    (c .before .before .before .before .before .before .before .before .before .before .before .before .before .before .before .before .before .before .before .before .before .before .before .before .before .before .before .before .enhance-turn .ensures .0) (c .before .before .before .before .before .before .before .before .before .before .before .before .before .before .before .before .before .before .before .before .diagonal-turn .ensures .0) (out .0) (out .1 .0) (out .1 .1 .0)) .green-size
-    ∙ sym (c .before .before .before .before .before .before .before .before .before .before .before .before .before .before .before .before .before .before .before .before .before .before .before .before .before .before .before .before .before .before .before .before .before .before .before .before .before .before .before .before .before .before .before .before .before .before .before .before .before .before .before .before .before .before .before .before .before .before .before .before .before .before .pre .0 .green-size)
+    let out = c .before .before .before in
+    let diagonal = diagonal-of out in
+    let enhance = enhance-of diagonal in
+    let second = second-of enhance in
+    let first = first-of second in
+    let start = start-of first in
+    (step-made (start .pre .0) (first .first-turn .ensures .0) (second .second-turn .ensures .0) (enhance .enhance-turn .ensures .0)
+    (diagonal .diagonal-turn .ensures .0) (out .out-turn .ensures .0) (out .out-turn .ensures .1 .0) (out .out-turn .ensures .1 .1 .0)) .green-size
+    ∙ sym (start .pre .0 .green-size)
 
 same-length-5 : tie.Need-same-length-5
 same-length-5 c =
-    let out = c .before .before .before .out-turn .ensures in
-    (step-made (c .before .before .before .before .before .before .before .before .before .before .before .before .before .before .before .before .before .before .before .before .before .before .before .before .before .before .before .before .before .before .before .before .before .before .before .before .before .before .before .before .before .before .before .before .before .before .before .before .before .before .before .before .before .before .before .before .before .before .before .before .before .before .pre .0) (c .before .before .before .before .before .before .before .before .before .before .before .before .before .before .before .before .before .before .before .before .before .before .before .before .before .before .before .before .before .before .before .before .before .before .before .before .before .before .before .before .before .before .before .before .before .before .before .before .before .before .first-turn .ensures .0) (c .before .before .before .before .before .before .before .before .before .before .before .before .before .before .before .before .before .before .before .before .before .before .before .before .before .before .before .before .before .before .before .before .before .before .before .before .second-turn .ensures .0)
-    (c .before .before .before .before .before .before .before .before .before .before .before .before .before .before .before .before .before .before .before .before .before .before .before .before .before .before .before .before .enhance-turn .ensures .0) (c .before .before .before .before .before .before .before .before .before .before .before .before .before .before .before .before .before .before .before .before .diagonal-turn .ensures .0) (out .0) (out .1 .0) (out .1 .1 .0)) .blue-size
-    ∙ sym (c .before .before .before .before .before .before .before .before .before .before .before .before .before .before .before .before .before .before .before .before .before .before .before .before .before .before .before .before .before .before .before .before .before .before .before .before .before .before .before .before .before .before .before .before .before .before .before .before .before .before .before .before .before .before .before .before .before .before .before .before .before .before .pre .0 .blue-size)
+    let out = c .before .before .before in
+    let diagonal = diagonal-of out in
+    let enhance = enhance-of diagonal in
+    let second = second-of enhance in
+    let first = first-of second in
+    let start = start-of first in
+    (step-made (start .pre .0) (first .first-turn .ensures .0) (second .second-turn .ensures .0) (enhance .enhance-turn .ensures .0)
+    (diagonal .diagonal-turn .ensures .0) (out .out-turn .ensures .0) (out .out-turn .ensures .1 .0) (out .out-turn .ensures .1 .1 .0)) .blue-size
+    ∙ sym (start .pre .0 .blue-size)
 
 returns : tie.Need-returns
 returns c =
-    let first = c .before .before .before .before .before .before .before .before .before .before .before .before .before .before .before .before .before .before .before .before .before .before .before .before .before .before .before .before .before .before .before .before .before .before .before .before .before .before .before .before .before .before .before .before .before .before .before .before .before .before .first-turn .ensures in
-    let out = c .before .before .before .out-turn .ensures in (
-      step-made (c .before .before .before .before .before .before .before .before .before .before .before .before .before .before .before .before .before .before .before .before .before .before .before .before .before .before .before .before .before .before .before .before .before .before .before .before .before .before .before .before .before .before .before .before .before .before .before .before .before .before .before .before .before .before .before .before .before .before .before .before .before .before .pre .0) (c .before .before .before .before .before .before .before .before .before .before .before .before .before .before .before .before .before .before .before .before .before .before .before .before .before .before .before .before .before .before .before .before .before .before .before .before .before .before .before .before .before .before .before .before .before .before .before .before .before .before .first-turn .ensures .0) (c .before .before .before .before .before .before .before .before .before .before .before .before .before .before .before .before .before .before .before .before .before .before .before .before .before .before .before .before .before .before .before .before .before .before .before .before .second-turn .ensures .0)
-          (c .before .before .before .before .before .before .before .before .before .before .before .before .before .before .before .before .before .before .before .before .before .before .before .before .before .before .before .before .enhance-turn .ensures .0) (c .before .before .before .before .before .before .before .before .before .before .before .before .before .before .before .before .before .before .before .before .diagonal-turn .ensures .0) (out .0) (out .1 .0) (out .1 .1 .0),
-      (record { rows-size = out .1 .1 .1 .0; alongs-size = first .1 .alongs-size; v-size = first .1 .v-size }, out .1 .1 .1 .1),
-    )
+    let out = c .before .before .before in
+    let diagonal = diagonal-of out in
+    let enhance = enhance-of diagonal in
+    let second = second-of enhance in
+    let first = first-of second in
+    let start = start-of first in
+    let rows = first .first-turn .ensures .1 in
+    let sizes = out .out-turn .ensures .1 .1 .1 in
+    (step-made (start .pre .0) (first .first-turn .ensures .0) (second .second-turn .ensures .0) (enhance .enhance-turn .ensures .0)
+    (diagonal .diagonal-turn .ensures .0) (out .out-turn .ensures .0) (out .out-turn .ensures .1 .0) (out .out-turn .ensures .1 .1 .0),
+    (record { rows-size = sizes .0; alongs-size = rows .alongs-size; v-size = rows .v-size }, sizes .1))
 
 pub step-spec : {M : Type 1} → statement M
 step-spec =

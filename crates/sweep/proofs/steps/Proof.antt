@@ -1,9 +1,10 @@
+-- `sweep::steps` meets its contract: the invariant is that every stage has made t turns. Assumes nothing.
 use mathlib.Core.Path.{_∙_, sym}
 use Prim.Native.Nat.{_+_, _-_, _≤_}
 use native.Mathlib.Omega.{arith}
 use Rattle.frame.specs.Sites.{frame}
 use Rattle.sweep.specs.Invariant.{Sweep}
-use Rattle.sweep.specs.Scratch.{Row-arrays, Half-arrays}
+use Rattle.stage_turns.specs.Scratch.{Row-arrays, Half-arrays}
 use Rattle.sweep.specs.End.{sweep-all}
 use Rattle.sweep.proofs.steps.Statement.{statement}
 use Rattle.sweep.proofs.steps.Tie as tie
@@ -28,15 +29,19 @@ step-requires c κs =
     (inv .1, (inv .2, inv .3))
 
 add-t : tie.Need-add-t Inv-loop μ-loop
-add-t c = omega (arith, c .before .before .before .before .before .before .before .before .before .before .before .before .before .before .before .before .before .before .before .before .before .before .before .before .before .before .pre .0 .buffers .taken .low, c .before .before .before .before .before .before .before .before .before .before .before .before .before .before .before .before .before .before .before .before .before .before .before .before .loop .inv .0)
+add-t c =
+    let at-loop = c .before .before .before .before .before .before .before .before .before .before .before .before .before .before .before .before .before .before .before .before .before .before .before .before in
+    omega (arith, at-loop .before .before .pre .0 .buffers .taken .low, at-loop .loop .inv .0)
 
 loop-less : tie.Need-loop-less Inv-loop μ-loop
-loop-less c = omega (arith, c .before .before .before .before .before .before .before .before .before .before .before .before .before .before .before .before .before .before .before .before .before .before .before .loop-test .taken)
+loop-less c = let in-loop = c .before .before .before .before .before .before .before .before .before .before .before .before .before .before .before .before .before .before .before .before .before .before .before in omega (arith, in-loop .loop-test .taken)
 
 loop-again : tie.Need-loop-again Inv-loop μ-loop
 loop-again c =
-    let made = c .before .before .before .before .before .step .ensures in
-    (omega (arith, c .before .before .before .before .before .before .before .before .before .before .before .before .before .before .before .before .before .before .before .before .before .before .before .loop-test .taken), made .0, made .1 .0, made .1 .1)
+    let step = c .before .before .before .before .before in
+    let in-loop = step .before .before .before .before .before .before .before .before .before .before .before .before .before .before .before .before .before .before in
+    let made = step .step .ensures in
+    (omega (arith, in-loop .loop-test .taken), made .0, made .1 .0, made .1 .1)
 
 same-length : tie.Need-same-length Inv-loop μ-loop
 same-length c = c .before .loop .inv .1 .buffers .tops-size ∙ sym (c .before .before .before .pre .0 .buffers .tops-size)

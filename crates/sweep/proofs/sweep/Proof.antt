@@ -1,3 +1,4 @@
+-- `sweep::sweep` meets its contract: before the first step the buffers hold nothing that is asked. Assumes nothing.
 use mathlib.Core.Path.{refl}
 use borrow.Author.Needs.{needs}
 use Rattle.sweep.specs.Steps.{sweep-none}

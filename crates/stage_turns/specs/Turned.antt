@@ -14,8 +14,8 @@ use Rattle.records.specs.Turns.{Turn}
 use Rattle.records.specs.TurnLaws.{turn-made, turn-front, turn-early, turn-late}
 use Rattle.records.specs.Quantities.{norths, trials, outputs}
 use Rattle.records.specs.Stages.{Tops-stored, Gradients-stored, Chroma-stored, Second-stores, Enhance-stores, Diagonal-stores}
-use Rattle.sweep.specs.Distances.{First-turned, Second-turned, Enhance-turned, Diagonal-turned, Out-turn}
-use Rattle.sweep.specs.Reads.{second-reads, enhance-reads, diagonal-reads}
+use Rattle.stage_turns.specs.Distances.{First-turned, Second-turned, Enhance-turned, Diagonal-turned, Out-turn}
+use Rattle.stage_turns.specs.RowsDue.{second-reads, enhance-reads, diagonal-reads}
 
 tops-turned : (f : Frame) (t : ℕ) {old new : List ℤ} → 4 ≤ t → Tops-stored f (t - 4) old new
     → Turn 2 4 t top-size 0 (λ r. f .width) (in-halves f (norths f)) old new

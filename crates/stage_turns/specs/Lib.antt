@@ -1,0 +1,4 @@
+pub mod Distances
+pub mod RowsDue
+pub mod Turned
+pub mod Scratch
