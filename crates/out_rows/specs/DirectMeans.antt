@@ -27,8 +27,14 @@ abbrev pub other-values : Places → List ℤ → List ℤ → ℕ → List ℤ
 other-values p work other k = beside-values other (p .start) work (p .below .finals) (p .above .finals) k
 
 -- the weighted mean of four values under the gradients of green site k
-abbrev pub mean-at : Places → List ℤ → List ℤ → List ℤ → ℕ → ℤ
+abbrev mean-at : Places → List ℤ → List ℤ → List ℤ → ℕ → ℤ
 mean-at p work n values k = weighted-mean (directions values) (sizes (directions (four-entries work (p .east) (p .south) n k)))
+
+abbrev pub own-mean : Places → List ℤ → List ℤ → List ℤ → ℕ → ℤ
+own-mean p work n own k = mean-at p work n (own-values p work own k) k
+
+abbrev pub other-mean : Places → List ℤ → List ℤ → List ℤ → ℕ → ℤ
+other-mean p work n other k = mean-at p work n (other-values p work other k) k
 
 -- what a row of means reads
 pub record Direct-reads (p : Places) (work n own other : List ℤ) : Type 0 where

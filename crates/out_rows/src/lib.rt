@@ -12,7 +12,7 @@ ghost use Rattle.method.specs.Planes.{weighted-mean, final-round};
 ghost use Rattle.method.specs.Sizes.{At-most, Naturals};
 ghost use Rattle.out_rows.specs.Woven.{woven};
 ghost use Rattle.out_rows.specs.RowPlaces.{Row-of, Placed};
-ghost use Rattle.out_rows.specs.DirectMeans.{Bounded, own-values, other-values, mean-at, Direct-reads};
+ghost use Rattle.out_rows.specs.DirectMeans.{Bounded, own-mean, other-mean, Direct-reads};
 
 // Where the differences of a row start in work: the final ones, and those of the other colour.
 pub struct Differences {
@@ -109,8 +109,8 @@ pub fn direct_means(
 )
     requires { ⌜ Direct-reads p (now work) (now n) (now own) (now other) ⌝ }
     requires { ⌜ (length (now x) ≡ 2064) × (length (now y) ≡ 2064) ⌝ }
-    ensures { λ _. ⌜ Entries (pos 0) 2064 4 (p .rest + 4) (λ (k : ℕ). mean-at p (now (work .entry)) (now (n .entry)) (own-values p (now (work .entry)) (now (own .entry)) (k - 4)) (k - 4)) (now (x .exit)) ⌝ }
-    ensures { λ _. ⌜ Entries (pos 0) 2064 4 (p .rest + 4) (λ (k : ℕ). mean-at p (now (work .entry)) (now (n .entry)) (other-values p (now (work .entry)) (now (other .entry)) (k - 4)) (k - 4)) (now (y .exit)) ⌝ }
+    ensures { λ _. ⌜ Entries (pos 0) 2064 4 (p .rest + 4) (λ (k : ℕ). own-mean p (now (work .entry)) (now (n .entry)) (now (own .entry)) (k - 4)) (now (x .exit)) ⌝ }
+    ensures { λ _. ⌜ Entries (pos 0) 2064 4 (p .rest + 4) (λ (k : ℕ). other-mean p (now (work .entry)) (now (n .entry)) (now (other .entry)) (k - 4)) (now (y .exit)) ⌝ }
 {
     let start = p.start;
     let rest = p.rest;

@@ -17,7 +17,7 @@ use Rattle.method.specs.ColourLaws.{directions-path}
 use Rattle.method.specs.Planes.{weighted-mean, colour-difference}
 use Rattle.method.specs.Sizes.{At-most, listed-naturals}
 use Rattle.positions.specs.Taken.{Taken}
-use Rattle.positions.specs.HalfRows.{chroma-start, half-count, chroma-count, chroma-row, Half}
+use Rattle.positions.specs.HalfRows.{chroma-start, half-count, chroma-count, chroma-row}
 use Rattle.positions.specs.HalfRowLaws.{chroma-small, count-high}
 use Rattle.positions.specs.Near.{near-south, near-north}
 use Rattle.positions.specs.Places.{row-end}
@@ -30,9 +30,10 @@ use Rattle.half_rows.specs.Sources.{north-entry, four-entries}
 use Rattle.half_rows.specs.SiteGradients.{gradients-most, record-end, work-most, site-gradients-second}
 use Rattle.out_rows.specs.declared.Places.{Places}
 use Rattle.out_rows.specs.RowPlaces.{Placed}
-use Rattle.out_rows.specs.DirectMeans.{beside-values, own-values, other-values, mean-at, Direct-reads}
+use Rattle.out_rows.specs.DirectMeans.{beside-values, own-values, other-values, own-mean, other-mean, Direct-reads}
 use Rattle.out_stage.specs.RowColours.{row-colour}
 use Rattle.out_stage.specs.SiteOutputs.{own-difference, other-difference}
+use Rattle.out_stage.specs.OutRows.{Wide-half}
 use Rattle.out_stage.specs.DirectDifferences.{finals-size, others-size, east-step, west-step, beside-room, green-column, first-room, second-room, final-room, other-room, four-beside, four-beside-size, mean-beside}
 
 pub trade-twice : (c : Colour) → c ≡ trade (trade c)
@@ -66,8 +67,11 @@ module _ (shape : Shape) (zs : List ℕ) (i : ℕ) (p : Places) (placed : Placed
   pub rest-few : shape .width ≤ 4096 → p .rest ≤ 2048
   rest-few h = omega (arith, rest-half)
 
+  count-inside : p .count ≤ shape .width
+  count-inside = rw (placed .count-is) (count-high (shape .width) (p .start))
+
   pub both-inside : p .count + p .rest ≤ shape .width
-  both-inside = omega (arith, placed .rest-is, placed .count-is, count-high (shape .width) (p .start))
+  both-inside = omega (arith, placed .rest-is, count-inside)
 
   module _ (tops work : List ℤ) (reads : Out-reads (frame shape zs) i tops work) where
     abbrev lent : Lent (frame shape zs) i tops work
@@ -80,6 +84,9 @@ module _ (shape : Shape) (zs : List ℕ) (i : ℕ) (p : Places) (placed : Placed
     row-room : (r : ℕ) → r < shape .height → r * record-size (shape .width) + record-size (shape .width) ≤ length work
     row-room r h = omega (arith, lent .work-size, row-end (shape .height) (record-size (shape .width)) r h)
 
+    in-frame : (x : ℤ) → reflect (shape .height) x < shape .height
+    in-frame x = reflect-lt (shape .height) x (taken .tall)
+
     -- the differences of the row itself
     pub finals-inside : p .here .finals + p .count ≤ length work
     finals-inside = rw (placed .finals-is) (final-room (shape .width) (p .count) _ i (taken .wide) count-half (row-room i (lent .inside)))
@@ -89,11 +96,13 @@ module _ (shape : Shape) (zs : List ℕ) (i : ℕ) (p : Places) (placed : Placed
 
     -- the values beside green site k, of q in row i and of q' in the rows one off, read from entry o of their records on
     beside-are : (q q' : ℕ → ℕ → ℤ) (row : List ℤ) (o south north k : ℕ)
-        → Half (shape .width) (p .start) 3 (half-count (shape .width) (p .start) + 4 + 1) (q i) row
-        → Held (record-size (shape .width)) o (chroma-count (frame shape zs)) (i - 1) (min (i + 2) (shape .height)) (chroma-row (frame shape zs) q') work
+        → Wide-half (shape .width) p (q i) row
+        → Held (record-size (shape .width)) o (chroma-count (frame shape zs)) (i - 1) (min (i + 2) (shape .height))
+        (chroma-row (frame shape zs) q') work
         → south ≡ reflect (shape .height) (pos (i + 1)) * record-size (shape .width) + o
         → north ≡ reflect (shape .height) (subℕ i 1) * record-size (shape .width) + o → k < p .rest
-        → directions (beside-values row (p .start) work south north k) ≡ four-beside (frame shape zs) q q' i (1 - chroma-start (shape .phase) i + 2 * k)
+        → directions (beside-values row (p .start) work south north k) ≡
+        four-beside (frame shape zs) q q' i (1 - chroma-start (shape .phase) i + 2 * k)
     beside-are q q' row o south north k half held es en l =
         let H = shape .height in
         let W = shape .width in
@@ -107,15 +116,17 @@ module _ (shape : Shape) (zs : List ℕ) (i : ℕ) (p : Places) (placed : Placed
         (omega (arith, start-small)) room here (east-step (p .start) (chroma-start (shape .phase) i) k (placed .start-is) start-small))
         (half-around H W (p .start) 3 (half-count W (p .start) + 4 + 1) q row i half (k + 4 - p .start) i j (pos 0) (negℤ (pos 1))
         (omega (arith, start-small)) (omega arith) here (west-step (p .start) (chroma-start (shape .phase) i) k (placed .start-is) start-small))
-        (row-near-odd (frame shape zs) (record-size W) o (i - 1) (min (i + 2) H) q' work (taken .wide) held (reflect H (pos (i + 1))) i k south (pos 1) refl
-        (s .0) (omega (arith, s .1, s .2)) (south-odd H i (taken .tall)) (omega (arith, rest-green)) es)
-        (row-near-odd (frame shape zs) (record-size W) o (i - 1) (min (i + 2) H) q' work (taken .wide) held (reflect H (subℕ i 1)) i k north (negℤ (pos 1))
-        (ap (reflect H) (north-step i 1)) (u .0) (omega (arith, u .1, u .2)) (north-odd H i (taken .tall)) (omega (arith, rest-green)) en)
+        (row-near-odd (frame shape zs) (record-size W) o (i - 1) (min (i + 2) H) q' work (taken .wide) held
+        (reflect H (pos (i + 1))) i k south (pos 1) refl (s .0) (omega (arith, s .1, s .2))
+        (south-odd H i (taken .tall)) (omega (arith, rest-green)) es)
+        (row-near-odd (frame shape zs) (record-size W) o (i - 1) (min (i + 2) H) q' work (taken .wide) held
+        (reflect H (subℕ i 1)) i k north (negℤ (pos 1)) (ap (reflect H) (north-step i 1)) (u .0) (omega (arith, u .1, u .2))
+        (north-odd H i (taken .tall)) (omega (arith, rest-green)) en)
 
     module _ (n own other : List ℤ)
         (norths : Entries (pos 0) 2064 4 (p .rest + 4) (λ (x : ℕ). north-entry tops work (shape .width) i (p .count + (x - 4))) n)
-        (own-half : Half (shape .width) (p .start) 3 (half-count (shape .width) (p .start) + 4 + 1) (finals (frame shape zs) i) own)
-        (other-half : Half (shape .width) (p .start) 3 (half-count (shape .width) (p .start) + 4 + 1) (others (frame shape zs) i) other) where
+        (own-half : Wide-half (shape .width) p (finals (frame shape zs) i) own)
+        (other-half : Wide-half (shape .width) p (others (frame shape zs) i) other) where
       gradients-are : (k : ℕ) → k < p .rest
           → four-entries work (p .east) (p .south) n k ≡ listed (gradients-at (mosaic (frame shape zs)) i (1 - chroma-start (shape .phase) i + 2 * k))
       gradients-are k l = site-gradients-second (frame shape zs) i tops work (reads .reads .gradients) n (p .east) (p .south) (p .rest) (p .count) k
@@ -126,13 +137,15 @@ module _ (shape : Shape) (zs : List ℕ) (i : ℕ) (p : Places) (placed : Placed
       own-beside : (k : ℕ) → k < p .rest
           → directions (own-values p work own k) ≡
           four-beside (frame shape zs) (finals (frame shape zs)) (others (frame shape zs)) i (1 - chroma-start (shape .phase) i + 2 * k)
-      own-beside k l = beside-are (finals (frame shape zs)) (others (frame shape zs)) own (other-part (shape .width)) (p .below .others) (p .above .others) k
+      own-beside k l =
+          beside-are (finals (frame shape zs)) (others (frame shape zs)) own (other-part (shape .width)) (p .below .others) (p .above .others) k
           own-half (reads .others-held) (placed .others-south-is) (placed .others-north-is) l
 
       other-beside : (k : ℕ) → k < p .rest
           → directions (other-values p work other k) ≡
           four-beside (frame shape zs) (others (frame shape zs)) (finals (frame shape zs)) i (1 - chroma-start (shape .phase) i + 2 * k)
-      other-beside k l = beside-are (others (frame shape zs)) (finals (frame shape zs)) other (final-part (shape .width)) (p .below .finals) (p .above .finals) k
+      other-beside k l =
+          beside-are (others (frame shape zs)) (finals (frame shape zs)) other (final-part (shape .width)) (p .below .finals) (p .above .finals) k
           other-half (reads .reads .finals-held) (placed .finals-south-is) (placed .finals-north-is) l
 
       -- what the row of means asks
@@ -140,23 +153,23 @@ module _ (shape : Shape) (zs : List ℕ) (i : ℕ) (p : Places) (placed : Placed
       direct-reads = record {
         few = rest-few (taken .narrow);
         start-small = start-small;
-        east-inside = omega (arith, placed .east-is, placed .rest-is, placed .count-is, count-high (shape .width) (p .start), record-end _ _ _ _ lent, taken .wide);
-        south-inside = omega (arith, placed .south-is, placed .rest-is, placed .count-is, count-high (shape .width) (p .start), record-end _ _ _ _ lent, taken .wide);
-        finals-south-inside = rw (placed .finals-south-is) (final-room (shape .width) (p .rest) _ _ (taken .wide) rest-half (row-room _ (reflect-lt _ _ (taken .tall))));
-        finals-north-inside = rw (placed .finals-north-is) (final-room (shape .width) (p .rest) _ _ (taken .wide) rest-half (row-room _ (reflect-lt _ _ (taken .tall))));
-        others-south-inside = rw (placed .others-south-is) (other-room (shape .width) (p .rest) _ _ (taken .wide) rest-half (row-room _ (reflect-lt _ _ (taken .tall))));
-        others-north-inside = rw (placed .others-north-is) (other-room (shape .width) (p .rest) _ _ (taken .wide) rest-half (row-room _ (reflect-lt _ _ (taken .tall))));
+        east-inside = omega (arith, placed .east-is, placed .rest-is, count-inside, record-end _ _ _ _ lent, taken .wide);
+        south-inside = omega (arith, placed .south-is, placed .rest-is, count-inside, record-end _ _ _ _ lent, taken .wide);
+        finals-south-inside = rw (placed .finals-south-is) (final-room (shape .width) (p .rest) _ _ (taken .wide) rest-half (row-room _ (in-frame _)));
+        finals-north-inside = rw (placed .finals-north-is) (final-room (shape .width) (p .rest) _ _ (taken .wide) rest-half (row-room _ (in-frame _)));
+        others-south-inside = rw (placed .others-south-is) (other-room (shape .width) (p .rest) _ _ (taken .wide) rest-half (row-room _ (in-frame _)));
+        others-north-inside = rw (placed .others-north-is) (other-room (shape .width) (p .rest) _ _ (taken .wide) rest-half (row-room _ (in-frame _)));
         work-most = work-most _ _ _ _ lent;
         gradients = λ k l. listed-naturals _ (gradients-are k l) (gradients-most (frame shape zs) i _ taken);
         own-small = λ k l. subst (λ (v : FourDirections ℤ). At-most 4096 (sizes v)) (sym (own-beside k l))
-            (four-beside-size (frame shape zs) taken _ _ i _ (λ a b. finals-size (frame shape zs) taken a b) (λ a b. others-size (frame shape zs) taken a b));
+            (four-beside-size (frame shape zs) taken _ _ i _ (finals-size (frame shape zs) taken) (others-size (frame shape zs) taken));
         other-small = λ k l. subst (λ (v : FourDirections ℤ). At-most 4096 (sizes v)) (sym (other-beside k l))
-            (four-beside-size (frame shape zs) taken _ _ i _ (λ a b. others-size (frame shape zs) taken a b) (λ a b. finals-size (frame shape zs) taken a b));
+            (four-beside-size (frame shape zs) taken _ _ i _ (others-size (frame shape zs) taken) (finals-size (frame shape zs) taken));
       }
 
       -- what it gives
       pub own-means : (k : ℕ) → k < p .rest
-          → mean-at p work n (own-values p work own k) k ≡
+          → own-mean p work n own k ≡
           colour-difference (mosaic (frame shape zs)) (row-colour (shape .phase) i) i (1 - chroma-start (shape .phase) i + 2 * k)
       unfolding finals mosaic
       own-means k l =
@@ -166,7 +179,7 @@ module _ (shape : Shape) (zs : List ℕ) (i : ℕ) (p : Places) (placed : Placed
           (λ a b e. own-difference (mosaic f) _ a b e) (λ a b e. other-difference f _ a b e)
 
       pub other-means : (k : ℕ) → k < p .rest
-          → mean-at p work n (other-values p work other k) k ≡
+          → other-mean p work n other k ≡
           colour-difference (mosaic (frame shape zs)) (trade (row-colour (shape .phase) i)) i (1 - chroma-start (shape .phase) i + 2 * k)
       unfolding finals mosaic
       other-means k l =

@@ -31,12 +31,14 @@ module _ (W c : ℕ) (wide : 2 ≤ W) where
       ap g back ∙ (same (x - 4) (omega arith) ∙ ap q (sym (column-inside W (c + 2 * x) wide (omega arith) (omega arith) ∙ omega arith))))
 
   -- another quantity that is the same at its columns
-  pub half-same : {lo hi : ℕ} {q q' : ℕ → ℤ} {row : List ℤ} → ((j : ℕ) → j < W → j % 2 ≡ c % 2 → q j ≡ q' j) → Half W c lo hi q row → Half W c lo hi q' row
+  pub half-same : {lo hi : ℕ} {q q' : ℕ → ℤ} {row : List ℤ} → ((j : ℕ) → j < W → j % 2 ≡ c % 2 → q j ≡ q' j)
+      → Half W c lo hi q row → Half W c lo hi q' row
   half-same same e =
       entries-as e (omega arith) (omega arith) (λ x l h. same (column-at W (c + 2 * x)) (column-lt W (c + 2 * x) wide) (column-parity W c x wide))
 
   -- formed entry by entry from three half rows
-  pub half-of-three : (op : ℤ → ℤ → ℤ → ℤ) (p q r : ℕ → ℤ) {lo hi : ℕ} {a b d row : List ℤ} → Half W c lo hi p a → Half W c lo hi q b → Half W c lo hi r d
+  pub half-of-three : (op : ℤ → ℤ → ℤ → ℤ) (p q r : ℕ → ℤ) {lo hi : ℕ} {a b d row : List ℤ} → Half W c lo hi p a
+      → Half W c lo hi q b → Half W c lo hi r d
       → Entries (pos 0) 2064 lo hi (λ (x : ℕ). op (getD a x (pos 0)) (getD b x (pos 0)) (getD d x (pos 0))) row
       → Half W c lo hi (λ (j : ℕ). op (p j) (q j) (r j)) row
   half-of-three op p q r ha hb hd e = entries-as e (omega arith) (omega arith) (λ x l h.

@@ -6,16 +6,19 @@ use mathlib.Core.Path.{_≡_}
 use mathlib.Core.List.{List}
 use Prim.Native.Nat.{ℕ, _+_, _*_, _-_}
 use lib.IntN.{ℤ, pos}
-use lib.ListN.{length}
+use lib.ListN.{length, getD}
+use Rattle.toolkit.specs.Entries.{Entries}
 use Rattle.toolkit.specs.Writes.{Wrote}
 use Rattle.frame.specs.Sites.{Frame, Colour, green, frame}
 use Rattle.frame.specs.Colours.{trade}
 use Rattle.frame.specs.declared.Shape.{Shape}
 use Rattle.method.specs.Gradients.{mosaic}
 use Rattle.method.specs.Planes.{colour-difference}
-use Rattle.positions.specs.HalfRows.{chroma-start, chroma-count, Half}
+use Rattle.positions.specs.HalfRows.{chroma-start, half-count, chroma-count, Half}
 use Rattle.records.specs.Quantities.{finals, others, outputs}
 use Rattle.records.specs.Stages.{Out-reads}
+use Rattle.half_rows.specs.Sources.{source-entry}
+use Rattle.out_rows.specs.declared.Places.{Places}
 use Rattle.out_rows.specs.RowPlaces.{Row-of}
 use Rattle.out_stage.specs.RowColours.{row-colour}
 
@@ -25,6 +28,16 @@ Chroma-half f i q row = Half (f .width) (chroma-start (f .phase) i) 4 (chroma-co
 
 abbrev pub Green-half : Frame → ℕ → (ℕ → ℕ → ℤ) → List ℤ → Type 0
 Green-half f i q row = Half (f .width) (1 - chroma-start (f .phase) i) 4 (f .width - chroma-count f i + 4) (q i) row
+
+-- a part of a row's record as `copy` leaves it, mirrored, and the columns c, c + 2, .. with one more on each side
+abbrev pub Copied : Places → List ℤ → ℕ → List ℤ → Type 0
+Copied p work a row = Entries (pos 0) 2064 4 (p .count + 4) (λ (x : ℕ). getD work (a + (x - 4)) (pos 0)) row
+
+abbrev pub Mirrored : ℕ → Places → List ℤ → List ℤ → Type 0
+Mirrored W p copied row = Entries (pos 0) 2064 3 (half-count W (p .start) + 4 + 1) (λ (x : ℕ). getD copied (source-entry W (p .start) x) (pos 0)) row
+
+abbrev pub Wide-half : ℕ → Places → (ℕ → ℤ) → List ℤ → Type 0
+Wide-half W p q row = Half W (p .start) 3 (half-count W (p .start) + 4 + 1) q row
 
 pub record Row-differences (f : Frame) (i : ℕ) (own other x y : List ℤ) : Type 0 where
   pub chroma-own : Chroma-half f i (finals f) own

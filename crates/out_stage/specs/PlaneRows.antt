@@ -55,9 +55,13 @@ module _ (shape : Shape) (i start : ℕ) (r : Row-of shape i) (e : start ≡ chr
     pub own-row : (c : Colour) → row-colour (shape .phase) i ≡ c → Wrote (pos 0) (i * shape .width) (shape .width) (woven start zx x) old new
         → Plane-row shape i c zx zg xg xo x y old new
     own-row c k w =
-        rw (← k) (record { row = λ zs o. woven-row zs (outputs (frame shape zs) (row-colour (shape .phase) i)) zx x (o .chroma-own) (o .green-own) w })
+        rw (← k) (record {
+          row = λ zs o. woven-row zs (outputs (frame shape zs) (row-colour (shape .phase) i)) zx x (o .chroma-own) (o .green-own) w;
+        })
 
-    pub other-row : (c : Colour) → trade (row-colour (shape .phase) i) ≡ c → Wrote (pos 0) (i * shape .width) (shape .width) (woven start xo y) old new
-        → Plane-row shape i c zx zg xg xo x y old new
+    pub other-row : (c : Colour) → trade (row-colour (shape .phase) i) ≡ c
+        → Wrote (pos 0) (i * shape .width) (shape .width) (woven start xo y) old new → Plane-row shape i c zx zg xg xo x y old new
     other-row c k w =
-        rw (← k) (record { row = λ zs o. woven-row zs (outputs (frame shape zs) (trade (row-colour (shape .phase) i))) xo y (o .chroma-other) (o .green-other) w })
+        rw (← k) (record {
+          row = λ zs o. woven-row zs (outputs (frame shape zs) (trade (row-colour (shape .phase) i))) xo y (o .chroma-other) (o .green-other) w;
+        })

@@ -4,7 +4,6 @@ use mathlib.Core.List.{List}
 use Prim.Native.Nat.{ℕ, _+_, _*_, _-_, _<_, _≤_, min}
 use native.Mathlib.Omega.{arith}
 use lib.IntN.{ℤ, pos}
-use lib.ListN.{getD}
 use Rattle.toolkit.specs.Entries.{Entries, entries-as}
 use Rattle.frame.specs.Sites.{Frame, frame}
 use Rattle.frame.specs.Colours.{trade}
@@ -19,13 +18,13 @@ use Rattle.records.specs.Quantities.{finals, others}
 use Rattle.records.specs.Stages.{Out-reads}
 use Rattle.half_rows.specs.Mirror.{mirrored}
 use Rattle.half_rows.specs.Near.{chroma-count-is, half-of-row}
-use Rattle.half_rows.specs.Sources.{source-entry, north-entry}
+use Rattle.half_rows.specs.Sources.{north-entry}
 use Rattle.out_rows.specs.declared.Places.{Places}
 use Rattle.out_rows.specs.RowPlaces.{Placed}
-use Rattle.out_rows.specs.DirectMeans.{own-values, other-values, mean-at, Direct-reads}
+use Rattle.out_rows.specs.DirectMeans.{own-mean, other-mean, Direct-reads}
 use Rattle.out_stage.specs.RowColours.{row-colour}
 use Rattle.out_stage.specs.DirectReads.{start-small, rest-green, direct-reads, own-means, other-means}
-use Rattle.out_stage.specs.OutRows.{Chroma-half, Row-differences}
+use Rattle.out_stage.specs.OutRows.{Chroma-half, Copied, Mirrored, Wide-half, Row-differences}
 use Rattle.out_stage.specs.HalfLaws.{half-as, half-made}
 
 -- the columns of both halves lie in the row
@@ -45,17 +44,18 @@ module _ (shape : Shape) (zs : List ℕ) (i : ℕ) (p : Places) (placed : Placed
   -- a part of the row's own record, copied and mirrored
   row-half : (q : ℕ → ℕ → ℤ) (o a : ℕ) (copied row : List ℤ)
       → Held (record-size (shape .width)) o (chroma-count (frame shape zs)) (i - 1) (min (i + 2) (shape .height)) (chroma-row (frame shape zs) q) work
-      → a ≡ i * record-size (shape .width) + o → Entries (pos 0) 2064 4 (p .count + 4) (λ (x : ℕ). getD work (a + (x - 4)) (pos 0)) copied
-      → Entries (pos 0) 2064 3 (half-count (shape .width) (p .start) + 4 + 1) (λ (x : ℕ). getD copied (source-entry (shape .width) (p .start) x) (pos 0)) row
-      → Half (shape .width) (p .start) 3 (half-count (shape .width) (p .start) + 4 + 1) (q i) row
+      → a ≡ i * record-size (shape .width) + o → Copied p work a copied
+      → Mirrored (shape .width) p copied row
+      → Wide-half (shape .width) p (q i) row
   row-half q o a copied row held e c m =
       let lent = reads .reads .lent in
-      mirrored (shape .width) (p .start) (lent .taken .wide) (start-small shape zs i p placed) 3 (half-count (shape .width) (p .start) + 4 + 1) (q i) copied row
-      (half-of-row (frame shape zs) (record-size (shape .width)) o (i - 1) (min (i + 2) (shape .height)) q work (lent .taken .wide) held i (p .start) a (p .count) copied
-      (omega arith) (omega (arith, lent .inside)) (placed .start-is) (placed .count-is) e c) m
+      mirrored (shape .width) (p .start) (lent .taken .wide) (start-small shape zs i p placed) 3 (half-count (shape .width) (p .start) + 4 + 1) (q i)
+      copied row
+      (half-of-row (frame shape zs) (record-size (shape .width)) o (i - 1) (min (i + 2) (shape .height)) q work (lent .taken .wide) held i (p .start) a
+      (p .count) copied (omega arith) (omega (arith, lent .inside)) (placed .start-is) (placed .count-is) e c) m
 
   -- its middle
-  middle-half : (q : ℕ → ℕ → ℤ) {row : List ℤ} → Half (shape .width) (p .start) 3 (half-count (shape .width) (p .start) + 4 + 1) (q i) row
+  middle-half : (q : ℕ → ℕ → ℤ) {row : List ℤ} → Wide-half (shape .width) p (q i) row
       → Chroma-half (frame shape zs) i q row
   middle-half q h =
       half-as (shape .width) (q i) (placed .start-is) (chroma-count-is (frame shape zs) i (p .start) (placed .start-is))
@@ -63,14 +63,14 @@ module _ (shape : Shape) (zs : List ℕ) (i : ℕ) (p : Places) (placed : Placed
 
   module _ (n own-copied own other-copied other : List ℤ)
       (norths : Entries (pos 0) 2064 4 (p .rest + 4) (λ (x : ℕ). north-entry tops work (shape .width) i (p .count + (x - 4))) n)
-      (oc : Entries (pos 0) 2064 4 (p .count + 4) (λ (x : ℕ). getD work (p .here .finals + (x - 4)) (pos 0)) own-copied)
-      (om : Entries (pos 0) 2064 3 (half-count (shape .width) (p .start) + 4 + 1) (λ (x : ℕ). getD own-copied (source-entry (shape .width) (p .start) x) (pos 0)) own)
-      (tc : Entries (pos 0) 2064 4 (p .count + 4) (λ (x : ℕ). getD work (p .here .others + (x - 4)) (pos 0)) other-copied)
-      (tm : Entries (pos 0) 2064 3 (half-count (shape .width) (p .start) + 4 + 1) (λ (x : ℕ). getD other-copied (source-entry (shape .width) (p .start) x) (pos 0)) other) where
-    own-half : Half (shape .width) (p .start) 3 (half-count (shape .width) (p .start) + 4 + 1) (finals (frame shape zs) i) own
+      (oc : Copied p work (p .here .finals) own-copied)
+      (om : Mirrored (shape .width) p own-copied own)
+      (tc : Copied p work (p .here .others) other-copied)
+      (tm : Mirrored (shape .width) p other-copied other) where
+    own-half : Wide-half (shape .width) p (finals (frame shape zs) i) own
     own-half = row-half (finals (frame shape zs)) (final-part (shape .width)) _ own-copied own (reads .reads .finals-held) (placed .finals-is) oc om
 
-    other-half : Half (shape .width) (p .start) 3 (half-count (shape .width) (p .start) + 4 + 1) (others (frame shape zs) i) other
+    other-half : Wide-half (shape .width) p (others (frame shape zs) i) other
     other-half = row-half (others (frame shape zs)) (other-part (shape .width)) _ other-copied other (reads .others-held) (placed .others-is) tc tm
 
     pub means-asked : Direct-reads p work n own other
@@ -89,16 +89,16 @@ module _ (shape : Shape) (zs : List ℕ) (i : ℕ) (p : Places) (placed : Placed
         (λ k l. let back : k + 4 - 4 ≡ k = omega arith in ap g back ∙ same k l))
 
     pub differences-are : (x y : List ℤ)
-        → Entries (pos 0) 2064 4 (p .rest + 4) (λ (k : ℕ). mean-at p work n (own-values p work own (k - 4)) (k - 4)) x
-        → Entries (pos 0) 2064 4 (p .rest + 4) (λ (k : ℕ). mean-at p work n (other-values p work other (k - 4)) (k - 4)) y
+        → Entries (pos 0) 2064 4 (p .rest + 4) (λ (k : ℕ). own-mean p work n own (k - 4)) x
+        → Entries (pos 0) 2064 4 (p .rest + 4) (λ (k : ℕ). other-mean p work n other (k - 4)) y
         → Row-differences (frame shape zs) i own other x y
     differences-are x y ex ey = record {
       chroma-own = middle-half (finals (frame shape zs)) own-half;
       chroma-other = middle-half (others (frame shape zs)) other-half;
       green-own = green-half (colour-difference (mosaic (frame shape zs)) (row-colour (shape .phase) i) i)
-          {g = λ (k : ℕ). mean-at p work n (own-values p work own k) k} ex
+          {g = own-mean p work n own} ex
           (own-means shape zs i p placed tops work reads n own other norths own-half other-half);
       green-other = green-half (colour-difference (mosaic (frame shape zs)) (trade (row-colour (shape .phase) i)) i)
-          {g = λ (k : ℕ). mean-at p work n (other-values p work other k) k} ey
+          {g = other-mean p work n other} ey
           (other-means shape zs i p placed tops work reads n own other norths own-half other-half);
     }

@@ -33,6 +33,15 @@ traded-not-green red e = refl
 traded-not-green green e = e
 traded-not-green blue e = refl
 
+-- what the loops ask of the half rows
+pub record Row-bounded (n m : ℕ) (own other zx zg x y : List ℤ) : Type 0 where
+  pub own-small : Bounded 4096 n own
+  pub other-small : Bounded 4096 n other
+  pub zx-small : Bounded 4096 n zx
+  pub zg-small : Bounded 4096 m zg
+  pub x-small : Bounded 4096 m x
+  pub y-small : Bounded 4096 m y
+
 -- ---- a site of the row
 module _ (f : Frame) (i j : ℕ) where
   abbrev own : Colour
@@ -61,7 +70,8 @@ module _ (f : Frame) (i j : ℕ) where
     unfolding outputs mosaic
     green-measured = measured-output (mosaic f) green i j (second-half-green (f .phase) i j site)
 
-    green-missing : (c : Colour) → is-green c ≡ false → final-round (pos 4 *ℤ pos (sample f i j) -ℤ colour-difference (mosaic f) c i j) ≡ outputs f c i j
+    green-missing : (c : Colour) → is-green c ≡ false
+        → final-round (pos 4 *ℤ pos (sample f i j) -ℤ colour-difference (mosaic f) c i j) ≡ outputs f c i j
     unfolding outputs mosaic
     green-missing c h = missing-output (mosaic f) c i j h (second-half-green (f .phase) i j site)
 
@@ -109,20 +119,15 @@ module _ (f : Frame) (i c n m : ℕ) (t : Taken f) (inside : i < f .height) (ec 
   difference-bounded : (k : Colour) {row : List ℤ} → Green-half f i (colour-difference (mosaic f) k) row → Bounded 4096 m row
   difference-bounded k h = half-bounded (f .width) (1 - c) (t .wide) 4096 m (difference k) (difference-size k) (second (difference k) h)
 
-  -- what the loops ask
-  pub chroma-bounded : (Bounded 4096 n own) × (Bounded 4096 n other) × (Bounded 4096 n zx)
-  chroma-bounded = (
-    half-bounded (f .width) c (t .wide) 4096 n (finals f i) (λ j h. finals-size f t i j inside h) own-half,
-    half-bounded (f .width) c (t .wide) 4096 n (others f i) (λ j h. others-size f t i j inside h) other-half,
-    half-bounded (f .width) c (t .wide) 4096 n measured (λ j h. sample-size j) zx-half,
-  )
-
-  pub green-bounded : (Bounded 4096 m zg) × (Bounded 4096 m x) × (Bounded 4096 m y)
-  green-bounded = (
-    half-bounded (f .width) (1 - c) (t .wide) 4096 m measured (λ j h. sample-size j) zg-half,
-    difference-bounded (row-colour (f .phase) i) (d .green-own),
-    difference-bounded (trade (row-colour (f .phase) i)) (d .green-other),
-  )
+  pub row-bounded : Row-bounded n m own other zx zg x y
+  row-bounded = record {
+    own-small = half-bounded (f .width) c (t .wide) 4096 n (finals f i) (λ j h. finals-size f t i j inside h) own-half;
+    other-small = half-bounded (f .width) c (t .wide) 4096 n (others f i) (λ j h. others-size f t i j inside h) other-half;
+    zx-small = half-bounded (f .width) c (t .wide) 4096 n measured (λ j h. sample-size j) zx-half;
+    zg-small = half-bounded (f .width) (1 - c) (t .wide) 4096 m measured (λ j h. sample-size j) zg-half;
+    x-small = difference-bounded (row-colour (f .phase) i) (d .green-own);
+    y-small = difference-bounded (trade (row-colour (f .phase) i)) (d .green-other);
+  }
 
   first-site : (j : ℕ) → j % 2 ≡ c % 2 → j % 2 ≡ chroma-start (f .phase) i
   first-site j e = omega (arith, chroma-small (f .phase) i)
@@ -134,8 +139,8 @@ module _ (f : Frame) (i c n m : ℕ) (t : Taken f) (inside : i < f .height) (ec 
       → Half (f .width) (chroma-start (f .phase) i) 4 (chroma-count f i + 4) q' row
   first-told q q' same h = half-as (f .width) q' ec en (half-same (f .width) c (t .wide) (λ j l e. same j (first-site j e)) h)
 
-  second-told : (q q' : ℕ → ℤ) {row : List ℤ} → ((j : ℕ) → ¬ (j % 2 ≡ chroma-start (f .phase) i) → q j ≡ q' j) → Half (f .width) (1 - c) 4 (m + 4) q row
-      → Half (f .width) (1 - chroma-start (f .phase) i) 4 (f .width - chroma-count f i + 4) q' row
+  second-told : (q q' : ℕ → ℤ) {row : List ℤ} → ((j : ℕ) → ¬ (j % 2 ≡ chroma-start (f .phase) i) → q j ≡ q' j)
+      → Half (f .width) (1 - c) 4 (m + 4) q row → Half (f .width) (1 - chroma-start (f .phase) i) 4 (f .width - chroma-count f i + 4) q' row
   second-told q q' same h = half-as (f .width) q' (sym even) em (half-same (f .width) (1 - c) (t .wide) (λ j l e. same j (second-site j e)) h)
 
   -- a colour at the green sites
@@ -162,5 +167,6 @@ module _ (f : Frame) (i c n m : ℕ) (t : Taken f) (inside : i < f .height) (ec 
         own-half zx-half other-half eo);
     green-green = second-told _ _ (λ j site. green-measured f i j site) zg-half;
     green-own = missing (row-colour (f .phase) i) x x' (row-not-green (f .phase) i) (d .green-own) ex;
-    green-other = missing (trade (row-colour (f .phase) i)) y y' (traded-not-green (row-colour (f .phase) i) (row-not-green (f .phase) i)) (d .green-other) ey;
+    green-other = missing (trade (row-colour (f .phase) i)) y y' (traded-not-green (row-colour (f .phase) i) (row-not-green (f .phase) i))
+        (d .green-other) ey;
   }

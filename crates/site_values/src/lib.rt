@@ -1,8 +1,7 @@
-// The last numbers of a site: the gradients of its corners, its final difference, its outputs, and an output held to 0..1,023.
+// The last numbers of a site: the gradients of its corners, its final difference and its outputs.
 ghost use mathlib.Core.Path.{_≡_};
 ghost use Prim.Native.Nat.{_≤_};
 ghost use lib.IntN.{pos, natAbs, _+ℤ_, _*ℤ_};
-ghost use Rattle.frame.specs.Calls.{held};
 ghost use Rattle.method.specs.Planes.{corner-gradients, fused, final-round};
 ghost use Rattle.method.specs.Four.{directions, sizes, listed};
 ghost use Rattle.method.specs.Sizes.{Naturals};
@@ -45,17 +44,4 @@ pub fn output(q: i32) -> i32
     ensures { λ r. ⌜ r ≡ final-round q ⌝ }
 {
     (q + 2) >> 2
-}
-
-// A number held to 0..1,023.
-pub fn clamp_value(v: i32) -> i32
-    ensures { λ r. ⌜ r ≡ held v ⌝ }
-{
-    if v < 0 {
-        0
-    } else if v > 1023 {
-        1023
-    } else {
-        v
-    }
 }

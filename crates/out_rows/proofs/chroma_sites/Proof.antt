@@ -1,3 +1,4 @@
+-- `out_rows::chroma_sites` meets its contract. Assumes nothing.
 use borrow.Author.Needs.{needs}
 use mathlib.Core.Path.{refl, _∙_, ap}
 use Prim.Native.Nat.{ℕ, _+_, _-_, _<_, _≤_}
@@ -54,7 +55,11 @@ mul-q-3 : tie.Need-mul-q-3 Inv-loop μ-loop
 mul-q-3 c = let hz = z-small (c .before .before .before) (c .before .before .loop-test .taken) in fits (search vals depth 30) tt
 
 add-q : tie.Need-add-q Inv-loop μ-loop
-add-q c = let hz = z-small (c .before .before .before) (c .before .before .loop-test .taken) in let hd = own-small (c .before .before .before) (c .before .before .loop-test .taken) in fits (search vals depth 30) tt
+add-q c =
+    let test = c .before .before in
+    let hz = z-small (test .before) (test .loop-test .taken) in
+    let hd = own-small (test .before) (test .loop-test .taken) in
+    fits (search vals depth 30) tt
 
 mul-o : tie.Need-mul-o Inv-loop μ-loop
 mul-o c = search needs
@@ -63,7 +68,11 @@ element-copy-out-o : tie.Need-element-copy-out-o Inv-loop μ-loop
 element-copy-out-o c = search needs
 
 output-requires : tie.Need-output-requires Inv-loop μ-loop
-output-requires c κs = let hz = z-small (c .before .before .before .before) (c .before .before .before .loop-test .taken) in let hd = own-small (c .before .before .before .before) (c .before .before .before .loop-test .taken) in small (search vals depth 30) tt
+output-requires c κs =
+    let test = c .before .before .before in
+    let hz = z-small (test .before) (test .loop-test .taken) in
+    let hd = own-small (test .before) (test .loop-test .taken) in
+    small (search vals depth 30) tt
 
 mul-t15 : tie.Need-mul-t15 Inv-loop μ-loop
 mul-t15 c = search needs
@@ -73,16 +82,18 @@ element-set-from-g c = search needs
 
 sub-output : tie.Need-sub-output Inv-loop μ-loop
 sub-output c =
-    let hz = z-small (c .before .before .before .before .before) (c .before .before .before .before .loop-test .taken) in
-    let hd = own-small (c .before .before .before .before .before) (c .before .before .before .before .loop-test .taken) in
-    let ho = other-small (c .before .before .before .before .before) (c .before .before .before .before .loop-test .taken) in
+    let test = c .before .before .before .before in
+    let hz = z-small (test .before) (test .loop-test .taken) in
+    let hd = own-small (test .before) (test .loop-test .taken) in
+    let ho = other-small (test .before) (test .loop-test .taken) in
     fits (search vals depth 30) tt
 
 output-requires-2 : tie.Need-output-requires-2 Inv-loop μ-loop
 output-requires-2 c κs =
-    let hz = z-small (c .before .before .before .before .before) (c .before .before .before .before .loop-test .taken) in
-    let hd = own-small (c .before .before .before .before .before) (c .before .before .before .before .loop-test .taken) in
-    let ho = other-small (c .before .before .before .before .before) (c .before .before .before .before .loop-test .taken) in
+    let test = c .before .before .before .before in
+    let hz = z-small (test .before) (test .loop-test .taken) in
+    let hd = own-small (test .before) (test .loop-test .taken) in
+    let ho = other-small (test .before) (test .loop-test .taken) in
     small (search vals depth 30) tt
 
 mul-t15-2 : tie.Need-mul-t15-2 Inv-loop μ-loop

@@ -1,3 +1,4 @@
+-- `out_rows::direct_mean` meets its contract. Assumes nothing.
 use mathlib.Core.Path.{_≡_, _∙_}
 use mathlib.Core.List.{[], _∷_}
 use mir.Facts.{toZ-ofZ}

@@ -1,13 +1,14 @@
+-- `out_rows::direct_means` meets its contract. Assumes nothing.
 use borrow.Author.Needs.{needs}
 use mathlib.Core.Path.{_≡_, refl, _∙_, ap}
-use Prim.Native.Nat.{ℕ, _+_, _-_, _≤_}
+use Prim.Native.Nat.{ℕ, _+_, _-_, _<_, _≤_}
 use lib.IntN.{ℤ, pos}
 use lib.ListN.{getD}
 use mathlib.Core.List.{List}
 use native.Mathlib.Omega.{arith}
 use Rattle.toolkit.specs.Entries.{Entries, entries-none, entries-next, entries-as}
 use Rattle.half_rows.specs.Reading.{as-read}
-use Rattle.out_rows.specs.DirectMeans.{own-values, other-values, mean-at}
+use Rattle.out_rows.specs.DirectMeans.{own-mean, other-mean}
 use Rattle.out_rows.specs.MeanLaws.{read-most, read-mean}
 use Rattle.out_rows.proofs.direct_means.Statement.{statement}
 use Rattle.out_rows.proofs.direct_means.Tie as tie
@@ -15,8 +16,8 @@ use Rattle.out_rows.proofs.direct_means.Tie as tie
 abbrev Inv-loop : tie.InvT-loop
 Inv-loop work p n own other x₀ y₀ start rest finals-south finals-north others-south others-north k₀ x y k =
     (k ≤ rest)
-    × Entries (pos 0) 2064 4 (k + 4) (λ (j : ℕ). mean-at p work n (own-values p work own (j - 4)) (j - 4)) x
-    × Entries (pos 0) 2064 4 (k + 4) (λ (j : ℕ). mean-at p work n (other-values p work other (j - 4)) (j - 4)) y
+    × Entries (pos 0) 2064 4 (k + 4) (λ (j : ℕ). own-mean p work n own (j - 4)) x
+    × Entries (pos 0) 2064 4 (k + 4) (λ (j : ℕ). other-mean p work n other (j - 4)) y
 
 abbrev μ-loop : tie.MeasureT-loop
 μ-loop work p n own other x₀ y₀ start rest finals-south finals-north others-south others-north k₀ x y k = rest - k
@@ -150,20 +151,35 @@ loop-less c = search needs
 
 loop-again : tie.Need-loop-again Inv-loop μ-loop
 loop-again c =
-    let at-loop = c .before .before .before .before .before .before .before .before .before .before .before .before in
-    let a = c .before .before .before .before .before .before .before .before .before .before .before .before .before .before .before .args in
+    let mean2 = c in
+    let north2 = mean2 .before in
+    let south2 = north2 .before in
+    let west2 = south2 .before in
+    let east2 = west2 .before in
+    let mean = east2 .before in
+    let north = mean .before in
+    let south = north .before in
+    let west = south .before in
+    let east = west .before in
+    let test = east .before .before in
+    let at-loop = test .before in
+    let start = at-loop .before .before .before in
+    let a = start .args in
     let k = at-loop .loop .k in
     let back : k ≡ k + 4 - 4 = omega arith in
-    let four-is = c .before .before .before .before .before .before .before .before .before .before .four .ensures in (
-      omega arith,
-      entries-next (at-loop .loop .inv .1) (omega arith) (omega arith)
-          (as-read (c .before .before .before .before .before .direct-mean .ok) ∙ (read-mean (as-read (c .before .before .before .before .before .before .before .before .before .direct-mean-arg .given)) (as-read (c .before .before .before .before .before .before .before .before .direct-mean-arg2 .given))
-          (as-read (c .before .before .before .before .before .before .before .direct-mean-arg3 .given)) (as-read (c .before .before .before .before .before .before .direct-mean-arg4 .given)) four-is (c .before .before .before .before .before .direct-mean .ensures)
-          ∙ ap (λ (j : ℕ). mean-at (a .p) (a .work .now) (a .n .now) (own-values (a .p) (a .work .now) (a .own .now) j) j) back)),
-      entries-next (at-loop .loop .inv .2) (omega arith) (omega arith)
-          (as-read (c .direct-mean2 .ok) ∙ (read-mean (as-read (c .before .before .before .before .direct-mean-arg5 .given)) (as-read (c .before .before .before .direct-mean-arg6 .given))
-          (as-read (c .before .before .direct-mean-arg7 .given)) (as-read (c .before .direct-mean-arg8 .given)) four-is (c .direct-mean2 .ensures)
-          ∙ ap (λ (j : ℕ). mean-at (a .p) (a .work .now) (a .n .now) (other-values (a .p) (a .work .now) (a .other .now) j) j) back)),
+    let room : k + 4 < 2064 = omega (arith, test .loop-test .taken, start .pre .0 .few) in
+    let four-is = east .before .four .ensures in (
+      omega (arith, test .loop-test .taken),
+      entries-next (at-loop .loop .inv .1) room (omega arith)
+          (as-read (mean .direct-mean .ok)
+          ∙ (read-mean (as-read (east .direct-mean-arg .given)) (as-read (west .direct-mean-arg2 .given)) (as-read (south .direct-mean-arg3 .given))
+          (as-read (north .direct-mean-arg4 .given)) four-is (mean .direct-mean .ensures)
+          ∙ ap (own-mean (a .p) (a .work .now) (a .n .now) (a .own .now)) back)),
+      entries-next (at-loop .loop .inv .2) room (omega arith)
+          (as-read (mean2 .direct-mean2 .ok)
+          ∙ (read-mean (as-read (east2 .direct-mean-arg5 .given)) (as-read (west2 .direct-mean-arg6 .given))
+          (as-read (south2 .direct-mean-arg7 .given)) (as-read (north2 .direct-mean-arg8 .given)) four-is (mean2 .direct-mean2 .ensures)
+          ∙ ap (other-mean (a .p) (a .work .now) (a .n .now) (a .other .now)) back)),
     )
 
 returns : tie.Need-returns Inv-loop μ-loop

@@ -1,3 +1,4 @@
+-- `out_rows::row_places` meets its contract. Assumes nothing.
 use borrow.Author.Needs.{needs}
 use mathlib.Core.Path.{refl, _∙_, ap}
 use Prim.Native.Nat.{ℕ, _+_, _*_}
@@ -41,8 +42,9 @@ other-at-requires-3 c κs = search needs
 
 sub-t12 : tie.Need-sub-t12
 sub-t12 c =
-    let start = c .before .before .before .before .before .before .before .before .before .before in
-    rw (c .before .before .before .before .before .before .before .before .half-count .ensures .0) (count-high (start .args .shape .width) (c .before .before .before .before .before .before .before .before .before .first-chroma .result))
+    let count = c .before .before .before .before .before .before .before .before in
+    let chroma = count .before in
+    rw (count .half-count .ensures .0) (count-high (chroma .before .args .shape .width) (chroma .first-chroma .result))
 
 record-at-requires : tie.Need-record-at-requires
 record-at-requires c κs = search needs
@@ -61,19 +63,31 @@ add-t17 c = search needs
 
 returns : tie.Need-returns
 returns c =
-    let w = c .before .before .before .before .before .before .before .before .before .before .before .before .args .shape .width in
+    let south = c in
+    let east = south .before in
+    let above-others = east .before in
+    let above-finals = above-others .before in
+    let below-others = above-finals .before in
+    let below-finals = below-others .before in
+    let others = below-finals .before in
+    let finals = others .before in
+    let up = finals .before in
+    let down = up .before in
+    let count = down .before in
+    let start = count .before in
+    let w = start .before .args .shape .width in
     record {
-      start-is = c .before .before .before .before .before .before .before .before .before .before .before .first-chroma .ensures .0;
-      count-is = c .before .before .before .before .before .before .before .before .before .before .half-count .ensures .0;
+      start-is = start .first-chroma .ensures .0;
+      count-is = count .half-count .ensures .0;
       rest-is = refl;
-      east-is = ap (λ (x : ℕ). x + (c .before .before .before .before .before .before .before .before .before .before .half-count .result + 1)) (c .before .record-at .ensures .0);
-      south-is = ap (λ (x : ℕ). x + c .before .before .before .before .before .before .before .before .before .before .half-count .result) (c .south-at .ensures);
-      finals-is = c .before .before .before .before .before .before .before .final-at .ensures;
-      others-is = c .before .before .before .before .before .before .other-at .ensures;
-      finals-south-is = c .before .before .before .before .before .final-at2 .ensures ∙ ap (λ (r : ℕ). r * record-size w + final-part w) (c .before .before .before .before .before .before .before .before .before .reflected .ensures .0);
-      finals-north-is = c .before .before .before .final-at3 .ensures ∙ ap (λ (r : ℕ). r * record-size w + final-part w) (c .before .before .before .before .before .before .before .before .reflected-less .ensures .0);
-      others-south-is = c .before .before .before .before .other-at2 .ensures ∙ ap (λ (r : ℕ). r * record-size w + other-part w) (c .before .before .before .before .before .before .before .before .before .reflected .ensures .0);
-      others-north-is = c .before .before .other-at3 .ensures ∙ ap (λ (r : ℕ). r * record-size w + other-part w) (c .before .before .before .before .before .before .before .before .reflected-less .ensures .0);
+      east-is = ap (λ (x : ℕ). x + (count .half-count .result + 1)) (east .record-at .ensures .0);
+      south-is = ap (λ (x : ℕ). x + count .half-count .result) (south .south-at .ensures);
+      finals-is = finals .final-at .ensures;
+      others-is = others .other-at .ensures;
+      finals-south-is = below-finals .final-at2 .ensures ∙ ap (λ (r : ℕ). r * record-size w + final-part w) (down .reflected .ensures .0);
+      finals-north-is = above-finals .final-at3 .ensures ∙ ap (λ (r : ℕ). r * record-size w + final-part w) (up .reflected-less .ensures .0);
+      others-south-is = below-others .other-at2 .ensures ∙ ap (λ (r : ℕ). r * record-size w + other-part w) (down .reflected .ensures .0);
+      others-north-is = above-others .other-at3 .ensures ∙ ap (λ (r : ℕ). r * record-size w + other-part w) (up .reflected-less .ensures .0);
     }
 
 pub row-places-spec : {M : Type 1} → statement M

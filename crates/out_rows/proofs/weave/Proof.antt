@@ -1,3 +1,4 @@
+-- `out_rows::weave` meets its contract. Assumes nothing.
 use mathlib.Core.Path.{_≡_, refl}
 use Rattle.toolkit.specs.Writes.{wrote-as}
 use Rattle.out_rows.specs.Woven.{woven-zero, woven-one}

@@ -1,3 +1,4 @@
+-- `out_rows::weave_row` meets its contract. Assumes nothing.
 use mathlib.Core.Path.{_≡_, refl, _∙_}
 use Prim.Native.Nat.{_*_, _-_, _/_, _≤_}
 use lib.IntN.{pos}
@@ -77,7 +78,8 @@ loop-again c =
     let inv = at-loop .loop .inv in (
       omega arith,
       simp length-set (omega arith),
-      weave-step (a .even .now) (a .odd .now) (at-loop .loop .k) _ _ (inv .2) refl (omega arith) (as-read (c .before .out .given)) (as-read (c .out2 .given)) refl,
+      weave-step (a .even .now) (a .odd .now) (at-loop .loop .k) _ _ (inv .2) refl (omega arith) (as-read (c .before .out .given))
+          (as-read (c .out2 .given)) refl,
     )
 
 add-out-4 : tie.Need-add-out-4 Inv-loop μ-loop
@@ -110,7 +112,8 @@ returns c =
     let a = at-loop .before .args in
     let inv = at-loop .loop .inv in
     let odd : 2 * at-loop .loop .k ≡ a .w - 1 = omega arith in
-    wrote-as (wrote-next (wrote-as (inv .2) odd (λ j h. refl)) (omega arith) (as-read (c .out3 .given) ∙ woven-even (a .even .now) (a .odd .now) (a .w - 1) (a .w / 2) (omega arith)))
+    wrote-as (wrote-next (wrote-as (inv .2) odd (λ j h. refl)) (omega arith)
+    (as-read (c .out3 .given) ∙ woven-even (a .even .now) (a .odd .now) (a .w - 1) (a .w / 2) (omega arith)))
     (omega arith) (λ j h. refl)
 
 same-length-2 : tie.Need-same-length-2 Inv-loop μ-loop

@@ -1,3 +1,4 @@
+-- `out_stage::store_outputs` meets its contract. Assumes nothing.
 use mathlib.Core.Path.{ap}
 use native.Mathlib.Omega.{arith}
 use Rattle.frame.specs.Sites.{red, blue}
@@ -55,13 +56,18 @@ same-length-3 c = search needs
 
 returns : tie.Need-returns
 returns c =
-    let start = c .before .before .before .before .before .before .before .before .before .before .before in
+    let second = c .before .before .before .before in
+    let test = second .before .before in
+    let first = test .before .before .before in
+    let start = first .before .before in
     let a = start .args in
-    let has-red = row-red (a .shape .phase) (a .i) (c .before .before .before .before .before .before .if1 .taken) in (
-      own-row (a .shape) (a .i) (a .start) (start .pre .row) (start .pre .start-is) _ _ _ _ _ _ _ _ red has-red (c .before .before .before .before .weave2 .ensures),
+    let row = start .pre .row in
+    let is = start .pre .start-is in
+    let has-red = row-red (a .shape .phase) (a .i) (test .if1 .taken) in (
+      own-row (a .shape) (a .i) (a .start) row is _ _ _ _ _ _ _ _ red has-red (second .weave2 .ensures),
       (
-        green-row (a .shape) (a .i) (a .start) (start .pre .row) (start .pre .start-is) _ _ _ _ _ _ _ _ (c .before .before .before .before .before .before .before .before .before .weave .ensures),
-        other-row (a .shape) (a .i) (a .start) (start .pre .row) (start .pre .start-is) _ _ _ _ _ _ _ _ blue (ap trade has-red) (c .before .weave3 .ensures),
+        green-row (a .shape) (a .i) (a .start) row is _ _ _ _ _ _ _ _ (first .weave .ensures),
+        other-row (a .shape) (a .i) (a .start) row is _ _ _ _ _ _ _ _ blue (ap trade has-red) (c .before .weave3 .ensures),
       ),
     )
 
@@ -76,13 +82,18 @@ same-length-6 c = search needs
 
 returns-2 : tie.Need-returns-2
 returns-2 c =
-    let start = c .before .before .before .before .before .before .before .before .before .before .before in
+    let second = c .before .before .before .before in
+    let test = second .before .before in
+    let first = test .before .before .before in
+    let start = first .before .before in
     let a = start .args in
-    let has-blue = row-blue (a .shape .phase) (a .i) (c .before .before .before .before .before .before .if1 .left) in (
-      other-row (a .shape) (a .i) (a .start) (start .pre .row) (start .pre .start-is) _ _ _ _ _ _ _ _ red (ap trade has-blue) (c .before .weave5 .ensures),
+    let row = start .pre .row in
+    let is = start .pre .start-is in
+    let has-blue = row-blue (a .shape .phase) (a .i) (test .if1 .left) in (
+      other-row (a .shape) (a .i) (a .start) row is _ _ _ _ _ _ _ _ red (ap trade has-blue) (c .before .weave5 .ensures),
       (
-        green-row (a .shape) (a .i) (a .start) (start .pre .row) (start .pre .start-is) _ _ _ _ _ _ _ _ (c .before .before .before .before .before .before .before .before .before .weave .ensures),
-        own-row (a .shape) (a .i) (a .start) (start .pre .row) (start .pre .start-is) _ _ _ _ _ _ _ _ blue has-blue (c .before .before .before .before .weave4 .ensures),
+        green-row (a .shape) (a .i) (a .start) row is _ _ _ _ _ _ _ _ (first .weave .ensures),
+        own-row (a .shape) (a .i) (a .start) row is _ _ _ _ _ _ _ _ blue has-blue (second .weave4 .ensures),
       ),
     )
 

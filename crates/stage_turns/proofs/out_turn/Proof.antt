@@ -15,9 +15,24 @@ out-line-requires c κs =
     let due = c .before .before .before .before .before .before .before .before .before .before .before .before .before in
     let begun = due .before .before in
     let start = begun .before .before .pre in
-    let sizes = start .1 .1 .1 in
-    (out-reads (start .0) (begun .if1 .left) (due .if2 .taken), (start .1 .0, (start .1 .1 .0, sizes .n-size, sizes .a-size, sizes .b-size,
-    sizes .d-size, sizes .e-size, sizes .f-size, sizes .g-size, sizes .l-size, sizes .m-size)))
+    let sizes = start .1 .1 .1 in (
+      out-reads (start .0) (begun .if1 .left) (due .if2 .taken),
+      (
+        start .1 .0,
+        (
+          start .1 .1 .0,
+          sizes .n-size,
+          sizes .a-size,
+          sizes .b-size,
+          sizes .d-size,
+          sizes .e-size,
+          sizes .f-size,
+          sizes .g-size,
+          sizes .l-size,
+          sizes .m-size,
+        ),
+      ),
+    )
 
 same-length : tie.Need-same-length
 same-length c = search needs
@@ -34,23 +49,38 @@ returns-2 c =
     let due = line .before .before .before .before .before .before .before .before .before .before .before .before .before .before in
     let begun = due .before .before .if1 .left in
     let made = line .out-line .ensures in
-    let sizes = made .1 .1 .1 in
-    (out-turned _ _ _ begun (due .if2 .taken) (made .0), (out-turned _ _ _ begun (due .if2 .taken) (made .1 .0),
-    (out-turned _ _ _ begun (due .if2 .taken) (made .1 .1 .0), (sizes .0, record {
-      n-size = sizes .1;
-      a-size = sizes .2;
-      b-size = sizes .3;
-      d-size = sizes .4;
-      e-size = sizes .5;
-      f-size = sizes .6;
-      g-size = sizes .7;
-      l-size = sizes .8;
-      m-size = sizes .9;
-    }))))
+    let sizes = made .1 .1 .1 in (
+      out-turned _ _ _ begun (due .if2 .taken) (made .0),
+      (
+        out-turned _ _ _ begun (due .if2 .taken) (made .1 .0),
+        (
+          out-turned _ _ _ begun (due .if2 .taken) (made .1 .1 .0),
+          (
+            sizes .0,
+            record {
+              n-size = sizes .1;
+              a-size = sizes .2;
+              b-size = sizes .3;
+              d-size = sizes .4;
+              e-size = sizes .5;
+              f-size = sizes .6;
+              g-size = sizes .7;
+              l-size = sizes .8;
+              m-size = sizes .9;
+            },
+          ),
+        ),
+      ),
+    )
 
 returns-3 : tie.Need-returns-3
-returns-3 c = (turn-late (omega (arith, c .if2 .left, c .before .before .if1 .left)), (turn-late (omega (arith, c .if2 .left, c .before .before .if1 .left)),
-    (turn-late (omega (arith, c .if2 .left, c .before .before .if1 .left)), c .before .before .before .before .pre .1 .1)))
+returns-3 c = (
+  turn-late (omega (arith, c .if2 .left, c .before .before .if1 .left)),
+  (
+    turn-late (omega (arith, c .if2 .left, c .before .before .if1 .left)),
+    (turn-late (omega (arith, c .if2 .left, c .before .before .if1 .left)), c .before .before .before .before .pre .1 .1),
+  ),
+)
 
 pub out-turn-spec : {M : Type 1} → statement M
 out-turn-spec =

@@ -170,10 +170,11 @@ returns c =
     let first = first-of second in
     let start = start-of first in
     let rows = first .first-turn .ensures .1 in
-    let sizes = out .out-turn .ensures .1 .1 .1 in
-    (step-made (start .pre .0) (first .first-turn .ensures .0) (second .second-turn .ensures .0) (enhance .enhance-turn .ensures .0)
-    (diagonal .diagonal-turn .ensures .0) (out .out-turn .ensures .0) (out .out-turn .ensures .1 .0) (out .out-turn .ensures .1 .1 .0),
-    (record { rows-size = sizes .0; alongs-size = rows .alongs-size; v-size = rows .v-size }, sizes .1))
+    let sizes = out .out-turn .ensures .1 .1 .1 in (
+      step-made (start .pre .0) (first .first-turn .ensures .0) (second .second-turn .ensures .0) (enhance .enhance-turn .ensures .0)
+          (diagonal .diagonal-turn .ensures .0) (out .out-turn .ensures .0) (out .out-turn .ensures .1 .0) (out .out-turn .ensures .1 .1 .0),
+      (record { rows-size = sizes .0; alongs-size = rows .alongs-size; v-size = rows .v-size }, sizes .1),
+    )
 
 pub step-spec : {M : Type 1} → statement M
 step-spec =
