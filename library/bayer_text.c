@@ -1,7 +1,7 @@
 /* The texts of the library: plain C beside the proved code, which calls nothing of it. */
 #include "bayer.h"
 
-static const char *const texts[] = {
+static const char texts[][72] = {
     "done",
     "width or height below 2 or above 4096",
     "phase above 3",
