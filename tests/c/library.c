@@ -62,6 +62,40 @@ static int is(struct bayer_returned returned, size_t number)
     return returned.number == number && returned.place == 0;
 }
 
+/* The number that read returns for the example file with one byte changed, and the check of block 1 or 0 set to fit where told. */
+static size_t read_changed(size_t place, uint8_t value, int fits)
+{
+    uint16_t samples[COUNT];
+    uint8_t file[FILE_LENGTH];
+    uint8_t *block = file + place / 512 * 512;
+    uint32_t check = 0;
+    bayer_write(shape, mosaic, COUNT, file, FILE_LENGTH);
+    file[place] = value;
+    for (uint32_t k = 0; k < 508; k++) {
+        check += (k + 1) * block[k];
+    }
+    for (int k = 0; fits && k < 4; k++) {
+        block[508 + k] = (uint8_t)(check >> 8 * k);
+    }
+    return bayer_read(file, FILE_LENGTH, samples, COUNT).number;
+}
+
+static void numbers(void)
+{
+    const uint16_t bright[COUNT] = {100, 40, 61, BAYER_SAMPLE_MOST + 1};
+    const struct bayer_shape wide = {BAYER_SIDE_MOST + 1, 2, BAYER_RGGB}, phase_4 = {2, 2, BAYER_BGGR + 1};
+    uint8_t file[FILE_LENGTH];
+    const struct bayer_returned sample = bayer_write(shape, bright, COUNT, file, FILE_LENGTH);
+    expect(is(bayer_write(wide, mosaic, COUNT, file, FILE_LENGTH), BAYER_SIZE), "a side of 4,097: BAYER_SIZE");
+    expect(is(bayer_write(phase_4, mosaic, COUNT, file, FILE_LENGTH), BAYER_PHASE), "phase 4: BAYER_PHASE");
+    expect(sample.number == BAYER_SAMPLE && sample.place == 3, "a sample of 1,024: BAYER_SAMPLE and its place");
+    expect(read_changed(600, 1, 0) == BAYER_CHECK, "a byte changed: BAYER_CHECK");
+    expect(read_changed(12, 4, 1) == BAYER_HEADER, "phase 4 in a file: BAYER_HEADER");
+    expect(read_changed(512, 2, 1) == BAYER_BLOCK_NUMBER, "block 1 with the number 2: BAYER_BLOCK_NUMBER");
+    expect(read_changed(1019, 1, 1) == BAYER_FILLER, "a filler byte of 1: BAYER_FILLER");
+    expect(read_changed(8, 201, 1) == BAYER_BLOCK_COUNT, "W too large for the count of blocks: BAYER_BLOCK_COUNT");
+}
+
 static void null_mosaics_and_files(void)
 {
     uint16_t samples[COUNT] = {7, 7, 7, 7};
@@ -100,6 +134,7 @@ int main(void)
     texts();
     version();
     lengths();
+    numbers();
     null_mosaics_and_files();
     null_planes();
     return expected();
