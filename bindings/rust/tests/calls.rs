@@ -1,0 +1,151 @@
+//! The wrapper's calls: the example frame, the way through a file, each refusal, and what the header says of lengths and texts.
+
+use bayer::{clamp, develop, read, read_length, text, write, Refusal, Shape};
+
+const SHAPE: Shape = Shape {
+    width: 2,
+    height: 2,
+    phase: 0,
+};
+const MOSAIC: [u16; 4] = [100, 40, 61, 200];
+
+fn refused(number: usize, place: usize) -> Result<(), Refusal> {
+    Err(Refusal { number, place })
+}
+
+fn written() -> Vec<u8> {
+    let mut file = vec![7; SHAPE.file_length()];
+    write(SHAPE, &MOSAIC, &mut file).unwrap();
+    file
+}
+
+/// Sets the check of a block to what its other bytes give.
+fn with_check(mut file: Vec<u8>, block: usize) -> Vec<u8> {
+    let bytes = &mut file[512 * block..][..512];
+    let sum: u32 = (1..)
+        .zip(&bytes[..508])
+        .map(|(k, &b)| k * u32::from(b))
+        .sum();
+    bytes[508..].copy_from_slice(&sum.to_le_bytes());
+    file
+}
+
+#[test]
+fn develops_the_example() {
+    let (mut red, mut green, mut blue, mut work) = ([7; 4], [7; 4], [7; 4], [7; 16]);
+    let answer = develop(SHAPE, &MOSAIC, &mut red, &mut green, &mut blue, &mut work);
+    assert_eq!(answer, Ok(()));
+    assert_eq!(red, [100, 90, 111, 100]);
+    assert_eq!(green, [51, 40, 61, 51]);
+    assert_eq!(blue, [200, 190, 211, 200]);
+}
+
+#[test]
+fn develop_refuses_and_leaves_the_buffers() {
+    let refuses = |shape, mosaic: &[u16], work: usize, number, place| {
+        let (mut red, mut green, mut blue) = ([7; 4], [7; 4], [7; 4]);
+        let mut work = vec![7; work];
+        let answer = develop(shape, mosaic, &mut red, &mut green, &mut blue, &mut work);
+        assert_eq!(answer, refused(number, place));
+        assert_eq!([red, green, blue], [[7; 4]; 3]);
+        assert!(work.iter().all(|&entry| entry == 7));
+    };
+    let bright = [100, 40, 1024, 1025];
+    refuses(Shape { width: 1, ..SHAPE }, &bright, 15, Refusal::SIZE, 0);
+    refuses(Shape { phase: 4, ..SHAPE }, &bright, 15, Refusal::PHASE, 0);
+    refuses(SHAPE, &bright[..3], 15, Refusal::MOSAIC_LENGTH, 0);
+    refuses(SHAPE, &[], 0, Refusal::MOSAIC_LENGTH, 0);
+    refuses(SHAPE, &bright, 15, Refusal::BUFFER_LENGTH, 0);
+    refuses(SHAPE, &bright, 16, Refusal::SAMPLE, 2);
+}
+
+#[test]
+fn clamps() {
+    let plane = [i32::MIN, -1, 0, 512, 1023, 1024, i32::MAX];
+    let mut held = [7; 7];
+    assert_eq!(
+        clamp(&plane, &mut held[..6]),
+        refused(Refusal::BUFFER_LENGTH, 0)
+    );
+    assert_eq!(held, [7; 7]);
+    assert_eq!(clamp(&plane, &mut held), Ok(()));
+    assert_eq!(held, [0, 0, 0, 512, 1023, 1023, 1023]);
+    assert_eq!(clamp(&[], &mut []), Ok(()));
+}
+
+#[test]
+fn writes_the_stored_example_and_reads_it_back() {
+    let file = written();
+    assert_eq!(file, include_bytes!("../../../examples/glaze.bayr"));
+    let mut samples = vec![7; read_length(file.len())];
+    assert_eq!(read(&file, &mut samples), Ok(SHAPE));
+    assert_eq!(samples[..4], MOSAIC);
+    assert!(samples[4..].iter().all(|&entry| entry == 7));
+}
+
+#[test]
+fn read_refuses_and_leaves_the_samples() {
+    let refuses = |file: &[u8], room: usize, number, place| {
+        let mut samples = vec![7; room];
+        assert_eq!(read(file, &mut samples).map(|_| ()), refused(number, place));
+        assert!(samples.iter().all(|&entry| entry == 7));
+    };
+    let changed = |place: usize, value| {
+        let mut file = written();
+        file[place] = value;
+        file
+    };
+    let file = written();
+    refuses(&[], 4, Refusal::BLOCK_COUNT, 0);
+    refuses(&file[..512], 4, Refusal::BLOCK_COUNT, 0);
+    refuses(&file, 3, Refusal::BUFFER_LENGTH, 0);
+    refuses(&file, 0, Refusal::BUFFER_LENGTH, 0);
+    refuses(&changed(600, 1), 4, Refusal::CHECK, 1);
+    refuses(&with_check(changed(4, b'b'), 0), 4, Refusal::HEADER, 0);
+    refuses(&with_check(changed(512, 2), 1), 4, Refusal::BLOCK_NUMBER, 1);
+    refuses(&with_check(changed(600, 1), 1), 4, Refusal::FILLER, 1);
+}
+
+#[test]
+fn write_refuses_and_leaves_the_file() {
+    let mut file = [7; 1024];
+    let bright = [100, 1024, 61, 1025];
+    assert_eq!(
+        write(SHAPE, &bright, &mut file),
+        refused(Refusal::SAMPLE, 1)
+    );
+    let short = write(SHAPE, &bright, &mut file[..1023]);
+    assert_eq!(short, refused(Refusal::BUFFER_LENGTH, 0));
+    assert_eq!(file, [7; 1024]);
+}
+
+#[test]
+fn lengths_for_any_sides() {
+    let of = |width, height| Shape {
+        width,
+        height,
+        phase: 0,
+    };
+    assert_eq!(of(20, 20).file_length(), 1024);
+    assert_eq!(of(401, 1).file_length(), 1536);
+    assert_eq!(of(4096, 4096).work_length(), 4 * 4096 * 4096);
+    for side in [0, 1, 4097, usize::MAX] {
+        let shape = of(side, side);
+        let mut file = vec![7; shape.file_length().min(1024)];
+        assert_eq!(write(shape, &[], &mut file), refused(Refusal::SIZE, 0));
+        assert!(read_length(side) <= side || side < 512);
+    }
+}
+
+#[test]
+fn texts_and_version() {
+    let texts: std::collections::HashSet<_> = (0..=11).map(text).collect();
+    assert_eq!(texts.len(), 12);
+    assert_eq!(text(usize::MAX), text(11));
+    let refusal = Refusal {
+        number: Refusal::SAMPLE,
+        place: 9,
+    };
+    assert_eq!(refusal.to_string(), "refused 5 9: a sample above 1023");
+    assert_eq!(bayer::version(), env!("CARGO_PKG_VERSION"));
+}

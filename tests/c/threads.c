@@ -1,0 +1,133 @@
+/* bayer_develop in threads: on a stack of just BAYER_STACK_BYTES, on the largest frame, and eight times at once. */
+#include <pthread.h>
+#include <stdlib.h>
+#include <string.h>
+
+#include "bayer.h"
+#include "expect.h"
+
+enum { THREADS = 8, SIDE = 600 };
+
+/* One call of develop: what is lent to it and what it returned. */
+struct call {
+    struct bayer_shape shape;
+    size_t count;
+    const uint16_t *mosaic;
+    int32_t *red, *green, *blue, *work;
+    struct bayer_returned returned;
+};
+
+static void *develop(void *argument)
+{
+    struct call *call = argument;
+    call->returned = bayer_develop(call->shape, call->mosaic, call->count, call->red, call->count, call->green, call->count, call->blue,
+                                   call->count, call->work, BAYER_WORK_LENGTH(call->shape.width, call->shape.height));
+    return NULL;
+}
+
+/* Samples that follow from their place alone. */
+static uint16_t *noise(size_t count)
+{
+    uint16_t *samples = malloc(count * sizeof *samples);
+    uint32_t state = 1;
+    for (size_t k = 0; samples != NULL && k < count; k++) {
+        state = state * 1664525u + 1013904223u;
+        samples[k] = (uint16_t)(state >> 22);
+    }
+    return samples;
+}
+
+/* A call with planes of its own; 0 where there is no memory. */
+static int prepare(struct call *call, size_t side, const uint16_t *mosaic, int32_t *work)
+{
+    const struct bayer_shape shape = {side, side, BAYER_GBRG};
+    call->shape = shape;
+    call->count = side * side;
+    call->mosaic = mosaic;
+    call->red = malloc(call->count * sizeof(int32_t));
+    call->green = malloc(call->count * sizeof(int32_t));
+    call->blue = malloc(call->count * sizeof(int32_t));
+    call->work = work;
+    call->returned.number = SIZE_MAX;
+    return mosaic != NULL && call->red != NULL && call->green != NULL && call->blue != NULL && work != NULL;
+}
+
+static void release(struct call *call)
+{
+    free(call->red);
+    free(call->green);
+    free(call->blue);
+}
+
+static int done(const struct call *call)
+{
+    return call->returned.number == BAYER_DONE && call->returned.place == 0;
+}
+
+static int equal_planes(const struct call *one, const struct call *other)
+{
+    const size_t bytes = one->count * sizeof(int32_t);
+    return memcmp(one->red, other->red, bytes) == 0 && memcmp(one->green, other->green, bytes) == 0 &&
+           memcmp(one->blue, other->blue, bytes) == 0;
+}
+
+static void on_the_stated_stack(void)
+{
+    uint16_t *mosaic = noise(BAYER_PLANE_LENGTH(BAYER_SIDE_MOST, BAYER_SIDE_MOST));
+    int32_t *work = malloc(BAYER_WORK_LENGTH(BAYER_SIDE_MOST, BAYER_SIDE_MOST) * sizeof *work);
+    struct call small, large;
+    if (!prepare(&small, BAYER_SIDE_MOST, mosaic, work) || !prepare(&large, BAYER_SIDE_MOST, mosaic, work)) {
+        expect(0, "memory for the planes of 4,096 by 4,096");
+        return;
+    }
+    pthread_attr_t attributes;
+    pthread_t thread;
+    expect(pthread_attr_init(&attributes) == 0 && pthread_attr_setstacksize(&attributes, BAYER_STACK_BYTES) == 0 &&
+               pthread_create(&thread, &attributes, develop, &small) == 0 && pthread_join(thread, NULL) == 0,
+           "a thread with a stack of BAYER_STACK_BYTES runs");
+    develop(&large);
+    expect(done(&small) && done(&large), "it develops 4,096 by 4,096");
+    expect(equal_planes(&small, &large), "its planes are those of the main thread");
+    release(&small);
+    release(&large);
+    free(work);
+    free(mosaic);
+}
+
+static void eight_at_once(void)
+{
+    uint16_t *mosaic = noise(BAYER_PLANE_LENGTH(SIDE, SIDE));
+    int32_t *work = malloc(THREADS * BAYER_WORK_LENGTH(SIDE, SIDE) * sizeof *work);
+    struct call calls[THREADS], alone;
+    pthread_t threads[THREADS];
+    int ready = work != NULL && prepare(&alone, SIDE, mosaic, work), equal = 1, all_done = 1;
+    for (int k = 0; ready && k < THREADS; k++) {
+        ready = prepare(&calls[k], SIDE, mosaic, work + (size_t)k * BAYER_WORK_LENGTH(SIDE, SIDE));
+    }
+    if (!ready) {
+        expect(0, "memory for nine frames");
+        return;
+    }
+    develop(&alone);
+    for (int k = 0; k < THREADS; k++) {
+        ready = pthread_create(&threads[k], NULL, develop, &calls[k]) == 0 && ready;
+    }
+    for (int k = 0; ready && k < THREADS; k++) {
+        pthread_join(threads[k], NULL);
+        all_done = all_done && done(&calls[k]);
+        equal = equal && equal_planes(&alone, &calls[k]);
+        release(&calls[k]);
+    }
+    expect(ready && all_done, "eight threads develop one mosaic at once");
+    expect(ready && done(&alone) && equal, "their planes are those of one thread alone");
+    release(&alone);
+    free(work);
+    free(mosaic);
+}
+
+int main(void)
+{
+    on_the_stated_stack();
+    eight_at_once();
+    return expected();
+}
