@@ -1,3 +1,4 @@
+-- `sums::add_rows` meets its contract. The loop has added the distances of the entries below k + 4; the others are as they were. Assumes nothing.
 use mathlib.Core.Path.{_≡_, refl, _∙_, ap}
 use Prim.Native.Nat.{ℕ, _+_, _-_, _<_, _≤_}
 use lib.IntN.{pos}
