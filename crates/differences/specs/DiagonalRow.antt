@@ -1,27 +1,26 @@
 -- A row of differences of the other colour, from the final differences of the rows one off. Assumes nothing.
 use mathlib.Core.Path.{_≡_, refl, sym, _∙_, ap, ap₂}
-use mathlib.Core.Bool.{false}
 use mathlib.Core.List.{List}
-use Prim.Native.Nat.{ℕ, _+_, _*_, _-_, _/_, _%_, _<_, _≤_, min}
+use Prim.Native.Nat.{ℕ, _+_, _*_, _-_, _%_, _<_, _≤_, min}
 use native.Mathlib.Omega.{arith}
 use lib.IntN.{ℤ, pos, negℤ, natAbs, _+ℤ_, subℕ}
 use lib.ListN.{length, getD}
 use Rattle.toolkit.specs.Orders.{to-naturals}
 use Rattle.toolkit.specs.Entries.{Entries}
 use Rattle.toolkit.specs.Writes.{Wrote, wrote-as}
-use Rattle.frame.specs.Sites.{Frame, Colour, red, blue, colour, reflect, around}
+use Rattle.frame.specs.Sites.{Frame, reflect, around}
 use Rattle.method.specs.Gradients.{mosaic}
 use Rattle.method.specs.Four.{directions, sizes}
-use Rattle.method.specs.Planes.{same, weighted-mean, diagonally, corners, corner-gradients, chroma-site-difference}
+use Rattle.method.specs.Planes.{weighted-mean, diagonally, corners, corner-gradients, chroma-site-difference}
 use Rattle.method.specs.Sizes.{At-most, around-size, final-difference-size}
 use Rattle.positions.specs.Taken.{Taken}
 use Rattle.positions.specs.Places.{row-end}
 use Rattle.positions.specs.Near.{near-north, near-south}
 use Rattle.positions.specs.HalfRows.{chroma-start, half-count, chroma-count, chroma-row, Half}
-use Rattle.positions.specs.HalfRowLaws.{chroma-small, chroma-odd, both-counts, rest-small}
+use Rattle.positions.specs.HalfRowLaws.{chroma-small, chroma-odd, both-counts, rest-small, rest-half}
 use Rattle.records.specs.Held.{Held}
 use Rattle.records.specs.Layout.{record-size, south-part, final-part}
-use Rattle.records.specs.Quantities.{finals, opposite, others}
+use Rattle.records.specs.Quantities.{finals, others}
 use Rattle.records.specs.SiteColours.{chroma-not-opposite}
 use Rattle.records.specs.Stages.{Lent, Diagonal-reads}
 use Rattle.half_rows.specs.Sources.{source-entry, north-entry}
@@ -60,15 +59,14 @@ pub record Diagonal-row (f : Frame) (i c count above below : ℕ) (tops work n c
 -- the room of row r's final differences
 module _ {f : Frame} {i c count : ℕ} {tops work : List ℤ} (lent : Lent f i tops work) (start : c ≡ chroma-start (f .phase) i)
     (sites : count ≡ half-count (f .width) c) where
-  pub rest-few : f .width - count ≤ 2048
-  rest-few = omega (arith, rest-small (f .width) c (omega (arith, chroma-small (f .phase) i)) (lent .taken .wide) (lent .taken .narrow))
+  low : c ≤ 1
+  low = omega (arith, chroma-small (f .phase) i)
 
-  rest-half : f .width - count ≤ (f .width + 1) / 2
-  unfolding half-count
-  rest-half = omega (arith, sites, start, chroma-small (f .phase) i)
+  pub rest-few : f .width - count ≤ 2048
+  rest-few = omega (arith, rest-small (f .width) c low (lent .taken .wide) (lent .taken .narrow))
 
   pub rest-room : (r : ℕ) {at : ℕ} → r < f .height → at ≡ r * record-size (f .width) + final-part (f .width) → at + (f .width - count) ≤ length work
-  rest-room r h e = omega (arith, rest-half, lent .taken .wide, lent .work-size, row-end (f .height) (record-size (f .width)) r h)
+  rest-room r h e = omega (arith, rest-half (f .width) c low, lent .taken .wide, lent .work-size, row-end (f .height) (record-size (f .width)) r h)
 
 pub row-one-off : {f : Frame} {c r rest at : ℕ} {work copied row : List ℤ} → at ≡ r * record-size (f .width) + final-part (f .width)
     → Entries (pos 0) 2064 4 (rest + 4) (λ (x : ℕ). getD work (at + (x - 4)) (pos 0)) copied
@@ -109,8 +107,8 @@ module _ {f : Frame} {i c count above below : ℕ} {tops work n copied-up up cop
       → Row-one-off f c r (f .width - count) work copied l → Half (f .width) (1 - c) (4 - 1) (half-count (f .width) (1 - c) + 4 + 1) (finals f r) l
   half r {copied} {l} a b par one =
       mirrored (f .width) (1 - c) (taken .wide) (omega arith) (4 - 1) (half-count (f .width) (1 - c) + 4 + 1) (finals f r) copied l
-      (half-of-row f (record-size (f .width)) (final-part (f .width)) (i - 1) (min (i + 2) (f .height)) (finals f) work (taken .wide) (row .held) r (1 - c)
-      (r * record-size (f .width) + final-part (f .width)) (f .width - count) copied a b
+      (half-of-row f (record-size (f .width)) (final-part (f .width)) (i - 1) (min (i + 2) (f .height)) (finals f) work (taken .wide) (row .held)
+      r (1 - c) (r * record-size (f .width) + final-part (f .width)) (f .width - count) copied a b
       (ap (λ (x : ℕ). 1 - x) (row .gradient-row .start) ∙ sym (chroma-odd (f .phase) i r par)) rest-is refl (one .copied-row))
       (one .mirrored-row)
 
@@ -130,8 +128,8 @@ module _ {f : Frame} {i c count above below : ℕ} {tops work n copied-up up cop
     corner : (l : List ℤ) (r x : ℕ) (o o' : ℤ) → Half (f .width) (1 - c) (4 - 1) (half-count (f .width) (1 - c) + 4 + 1) (finals f r) l
         → 3 ≤ x → x < half-count (f .width) (1 - c) + 4 + 1 → r ≡ reflect (f .height) (pos i +ℤ o)
         → subℕ (1 - c + 2 * x) 8 ≡ pos (c + 2 * k) +ℤ o' → getD l x (pos 0) ≡ around (f .height) (f .width) (finals f) i (c + 2 * k) o o'
-    corner l r x o o' h a b e p = half-around (f .height) (f .width) (1 - c) (4 - 1) (half-count (f .width) (1 - c) + 4 + 1) (finals f) l r h x i (c + 2 * k) o o'
-        a b e p
+    corner l r x o o' h a b e p =
+        half-around (f .height) (f .width) (1 - c) (4 - 1) (half-count (f .width) (1 - c) + 4 + 1) (finals f) l r h x i (c + 2 * k) o o' a b e p
 
     in-reach : k + c + 4 < half-count (f .width) (1 - c) + 4 + 1
     in-reach = reach-of (f .width) c k small (omega (arith, row .gradient-row .sites))
@@ -148,7 +146,8 @@ module _ {f : Frame} {i c count above below : ℕ} {tops work n copied-up up cop
     south-east = corner down below (k + c + 4) (pos 1) (pos 1) half-down (omega arith) in-reach (row .one-below) (on-one c k small)
 
     south-west : getD down (k + c + 3) (pos 0) ≡ around (f .height) (f .width) (finals f) i (c + 2 * k) (pos 1) (negℤ (pos 1))
-    south-west = corner down below (k + c + 3) (pos 1) (negℤ (pos 1)) half-down (omega arith) (omega (arith, in-reach)) (row .one-below) (back-one c k small)
+    south-west = corner down below (k + c + 3) (pos 1) (negℤ (pos 1)) half-down (omega arith) (omega (arith, in-reach))
+        (row .one-below) (back-one c k small)
 
     four-corners : directions (corners-read up down c k) ≡ corners (around (f .height) (f .width) (finals f) i (c + 2 * k))
     unfolding corners diagonally

@@ -1,5 +1,5 @@
 -- A row of final differences, from D of the rows i and two off. Assumes nothing.
-use mathlib.Core.Path.{_≡_, refl, sym, _∙_, ap, ap₂}
+use mathlib.Core.Path.{_≡_, sym, _∙_, ap, ap₂}
 use mathlib.Core.List.{List}
 use Prim.Native.Nat.{ℕ, _+_, _*_, _-_, _%_, _<_, _≤_, min}
 use native.Mathlib.Nat.{le-trans}
@@ -17,7 +17,7 @@ use Rattle.method.specs.Four.{directions, sizes}
 use Rattle.method.specs.Planes.{weighted-mean, straight, mean-two-off, fused, final-difference}
 use Rattle.method.specs.Sizes.{At-most, around-size, green-difference-size, mean-size}
 use Rattle.positions.specs.Taken.{Taken}
-use Rattle.positions.specs.Places.{row-end, area}
+use Rattle.positions.specs.Places.{plane-row}
 use Rattle.positions.specs.Near.{near-north, near-south}
 use Rattle.positions.specs.HalfRows.{chroma-start, half-count, chroma-count, chroma-row, Half}
 use Rattle.positions.specs.HalfRowLaws.{count-high}
@@ -72,10 +72,10 @@ enhance-row r c n b a nr cr mr = record {
 module _ {f : Frame} {i c count : ℕ} {tops work green : List ℤ} (reads : Enhance-reads f i tops work green)
     (start : c ≡ chroma-start (f .phase) i) (sites : count ≡ half-count (f .width) c) where
   pub row-room : (r : ℕ) → r < f .height → r * f .width + count ≤ length green
-  row-room r h = omega (arith, reads .green-size, row-end (f .height) (f .width) r h, count-high (f .width) c)
+  row-room r h = omega (arith, reads .green-size, plane-row f r count (reads .lent .taken) h (omega (arith, count-high (f .width) c)))
 
   pub green-most : length green ≤ 67108864
-  green-most = omega (arith, reads .green-size, area (f .height) (f .width) (reads .lent .taken .low) (reads .lent .taken .narrow))
+  green-most = omega (arith, reads .green-size, plane-row f i 0 (reads .lent .taken) (reads .lent .inside) (omega arith))
 
 module _ {f : Frame} {i c count below above : ℕ} {tops work green n copied l : List ℤ}
     (row : Enhance-row f i c count below above tops work green n copied l) where
@@ -153,7 +153,8 @@ module _ {f : Frame} {i c count below above : ℕ} {tops work green n copied l :
 
     D-small : natAbs (getD l (k + 4) (pos 0)) ≤ 8184
     unfolding greens
-    D-small = rw D-is (green-difference-size f (taken .tall) (taken .wide) (taken .ranged) i (c + 2 * k) inside (site-inside (row .gradient-row) k low))
+    D-small =
+        rw D-is (green-difference-size f (taken .tall) (taken .wide) (taken .ranged) i (c + 2 * k) inside (site-inside (row .gradient-row) k low))
 
   pub values-fit : Values-fit 8184 count (straight-read l green (below * f .width) (above * f .width))
   values-fit = record { each = values-small }

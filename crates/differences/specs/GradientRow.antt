@@ -1,7 +1,7 @@
 -- The gradients of the red and blue sites of a row, as the means read them. Assumes nothing.
 use mathlib.Core.Path.{_≡_, refl, sym, _∙_, ap}
 use mathlib.Core.List.{List}
-use Prim.Native.Nat.{ℕ, _+_, _*_, _-_, _/_, _<_, _≤_}
+use Prim.Native.Nat.{ℕ, _+_, _*_, _-_, _<_, _≤_}
 use native.Mathlib.Omega.{arith}
 use lib.IntN.{ℤ, pos}
 use lib.ListN.{length}
@@ -10,12 +10,12 @@ use Rattle.frame.specs.Sites.{Frame}
 use Rattle.method.specs.Gradients.{FourDirections, mosaic, gradients-at}
 use Rattle.method.specs.Four.{directions, sizes, listed}
 use Rattle.method.specs.Sizes.{listed-naturals}
-use Rattle.positions.specs.Places.{area}
 use Rattle.positions.specs.HalfRows.{chroma-start, half-count, chroma-count}
-use Rattle.positions.specs.HalfRowLaws.{chroma-small, count-column, count-high, count-most}
+use Rattle.positions.specs.HalfRowLaws.{chroma-small, count-column, count-high, count-half, count-most}
 use Rattle.records.specs.Layout.{record-size, south-part, final-part, other-part}
 use Rattle.records.specs.Stages.{Gradients, Lent}
 use Rattle.half_rows.specs.Sources.{north-entry, four-entries}
+use Rattle.half_rows.specs.Near.{chroma-count-is}
 use Rattle.half_rows.specs.SiteGradients.{gradients-most, record-end, work-most, site-gradients-first}
 use Rattle.differences.specs.Rows.{Gradients-fit}
 
@@ -34,10 +34,6 @@ pub record Gradient-row (f : Frame) (i c count : ℕ) (tops work n : List ℤ) :
 
 -- ---- room
 
--- a row's address
-pub address-small : {r H W : ℕ} → r < H → H ≤ 4096 → W ≤ 4096 → r * W ≤ 16777216
-address-small {r} {H} {W} l h w = area r W (omega arith) w
-
 module _ {f : Frame} {i c count : ℕ} {tops work : List ℤ} (lent : Lent f i tops work) (start : c ≡ chroma-start (f .phase) i)
     (sites : count ≡ half-count (f .width) c) where
   pub sites-few : count ≤ 2048
@@ -46,23 +42,18 @@ module _ {f : Frame} {i c count : ℕ} {tops work : List ℤ} (lent : Lent f i t
   pub sites-inside : 0 + count ≤ f .width
   sites-inside = omega (arith, count-high (f .width) c)
 
-  count-half : count ≤ (f .width + 1) / 2
-  unfolding half-count
-  count-half = omega (arith, sites)
-
   pub final-room : {at : ℕ} → at ≡ i * record-size (f .width) + final-part (f .width) → at + count ≤ length work
-  final-room e = omega (arith, count-half, lent .taken .wide, record-end f i tops work lent)
+  final-room e = omega (arith, count-half (f .width) c, lent .taken .wide, record-end f i tops work lent)
 
   pub other-room : {at : ℕ} → at ≡ i * record-size (f .width) + other-part (f .width) → at + count ≤ length work
-  other-room e = omega (arith, count-half, lent .taken .wide, record-end f i tops work lent)
+  other-room e = omega (arith, count-half (f .width) c, lent .taken .wide, record-end f i tops work lent)
 
 module _ {f : Frame} {i c count : ℕ} {tops work n : List ℤ} (row : Gradient-row f i c count tops work n) where
   pub start-small : c ≤ 1
   start-small = rw (row .start) (chroma-small (f .phase) i)
 
   pub count-is : count ≡ chroma-count f i
-  unfolding chroma-count
-  count-is = row .sites ∙ ap (half-count (f .width)) (row .start)
+  count-is = row .sites ∙ chroma-count-is f i c (row .start)
 
   pub count-few : count ≤ 2048
   count-few = omega (arith, row .sites, count-most (f .width) c (row .lent .taken .narrow))

@@ -3,7 +3,7 @@ use frame::Shape;
 ghost use mathlib.Core.Path.{_≡_};
 ghost use mathlib.Core.List.{List};
 ghost use Prim.Native.Nat.{ℕ, _+_, _*_, _-_, _<_, _≤_};
-ghost use lib.IntN.{ℤ, pos, natAbs};
+ghost use lib.IntN.{pos};
 ghost use lib.ListN.{length, getD};
 ghost use Rattle.toolkit.specs.Entries.{Entries};
 ghost use Rattle.toolkit.specs.Writes.{Wrote};
@@ -11,7 +11,8 @@ ghost use Rattle.frame.specs.Sites.{frame};
 ghost use Rattle.method.specs.Planes.{fused};
 ghost use Rattle.positions.specs.Taken.{Some-samples};
 ghost use Rattle.records.specs.Stages.{Enhance-reads, Enhance-stores, Diagonal-reads, Diagonal-stores};
-ghost use Rattle.differences.specs.Rows.{straight-read, corners-read, straight-mean-read, corner-mean-read, Gradients-fit, Values-fit, Half-fit};
+ghost use Rattle.differences.specs.Rows.{straight-read, corners-read, straight-mean-read, corner-mean-read};
+ghost use Rattle.differences.specs.Rows.{Gradients-fit, Values-fit, Half-fit};
 
 // M of entry k.
 fn straight_mean(
@@ -48,10 +49,13 @@ fn straight_means(
     count: usize,
     m: &mut [i32; 2064],
 )
-    requires { ⌜ (below + count ≤ length (now green)) × (above + count ≤ length (now green)) × (length (now green) ≤ 67108864) × (length (now m) ≡ 2064) ⌝ }
+    requires { ⌜ (below + count ≤ length (now green)) × (above + count ≤ length (now green)) × (length (now green) ≤ 67108864)
+        × (length (now m) ≡ 2064) ⌝ }
     requires { ⌜ Gradients-fit count east south (now work) (now n) ⌝ }
     requires { ⌜ Values-fit 8184 count (straight-read (now l) (now green) below above) ⌝ }
-    ensures { λ _. ⌜ Entries (pos 0) 2064 4 (count + 4) (λ (x : ℕ). straight-mean-read (now (work .entry)) east south (now (n .entry)) (now (l .entry)) (now (green .entry)) below above (x - 4)) (now (m .exit)) ⌝ }
+    ensures { λ _. ⌜ Entries (pos 0) 2064 4 (count + 4)
+        (λ (x : ℕ). straight-mean-read (now (work .entry)) east south (now (n .entry)) (now (l .entry)) (now (green .entry)) below above (x - 4))
+        (now (m .exit)) ⌝ }
 {
     let mut k = 0;
     while k < count {
@@ -64,7 +68,9 @@ fn straight_means(
 fn fuse_row(l: &[i32; 2064], m: &[i32; 2064], count: usize, work: &mut [i32], at: usize)
     requires { ⌜ (count ≤ 2048) × (at + count ≤ length (now work)) × (length (now work) ≤ 67108864) ⌝ }
     requires { ⌜ (Half-fit 8192 count (now l)) × (Half-fit 8192 count (now m)) ⌝ }
-    ensures { λ _. ⌜ Wrote (pos 0) at count (λ (k : ℕ). fused (getD (now (l .entry)) (k + 4) (pos 0)) (getD (now (m .entry)) (k + 4) (pos 0))) (now (work .entry)) (now (work .exit)) ⌝ }
+    ensures { λ _. ⌜ Wrote (pos 0) at count
+        (λ (k : ℕ). fused (getD (now (l .entry)) (k + 4) (pos 0)) (getD (now (m .entry)) (k + 4) (pos 0)))
+        (now (work .entry)) (now (work .exit)) ⌝ }
 {
     let mut k = 0;
     while k < count {
@@ -113,7 +119,9 @@ fn corner_means(
 )
     requires { ⌜ (c ≤ 1) × Gradients-fit count east south (now work) (now n) × (length (now m) ≡ 2064) ⌝ }
     requires { ⌜ Values-fit 4092 count (corners-read (now up) (now down) c) ⌝ }
-    ensures { λ _. ⌜ Entries (pos 0) 2064 4 (count + 4) (λ (x : ℕ). corner-mean-read (now (work .entry)) east south (now (n .entry)) (now (up .entry)) (now (down .entry)) c (x - 4)) (now (m .exit)) ⌝ }
+    ensures { λ _. ⌜ Entries (pos 0) 2064 4 (count + 4)
+        (λ (x : ℕ). corner-mean-read (now (work .entry)) east south (now (n .entry)) (now (up .entry)) (now (down .entry)) c (x - 4))
+        (now (m .exit)) ⌝ }
 {
     let mut k = 0;
     while k < count {
@@ -176,7 +184,8 @@ pub fn diagonal_line(
     requires { ⌜ Some-samples (λ (zs : List ℕ). Diagonal-reads (frame shape zs) i (now tops) (now work)) ⌝ }
     requires { ⌜ (length (now n) ≡ 2064) × (length (now up) ≡ 2064) × (length (now down) ≡ 2064) × (length (now m) ≡ 2064) ⌝ }
     ensures { λ _. ⌜ Diagonal-stores shape i (now (tops .entry)) (now (work .entry)) (now (work .exit)) ⌝ }
-    ensures { λ _. ⌜ (length (now (n .exit)) ≡ 2064) × (length (now (up .exit)) ≡ 2064) × (length (now (down .exit)) ≡ 2064) × (length (now (m .exit)) ≡ 2064) ⌝ }
+    ensures { λ _. ⌜ (length (now (n .exit)) ≡ 2064) × (length (now (up .exit)) ≡ 2064) × (length (now (down .exit)) ≡ 2064)
+        × (length (now (m .exit)) ≡ 2064) ⌝ }
 {
     let w = shape.width;
     let h = shape.height;

@@ -5,26 +5,22 @@ use Prim.Native.Nat.{ℕ, _+_, _*_, _-_, _<_, _≤_}
 use native.Mathlib.Omega.{arith}
 use lib.IntN.{ℤ, pos, negℤ, _+ℤ_, subℕ}
 use lib.ListN.{getD}
-use Rattle.toolkit.specs.Orders.{to-naturals}
 use Rattle.toolkit.specs.Writes.{Wrote}
 use Rattle.frame.specs.Sites.{Frame, reflect}
 use Rattle.method.specs.Gradients.{mosaic, samples-around, six-tap, six-tap-pair, eastbound, gradients, gradients-at, west-gradient}
 use Rattle.records.specs.Quantities.{wests}
 use Rattle.mosaic_rows.specs.LoadedRows.{Loaded}
 use Rattle.mosaic_rows.specs.LoadLaws.{loaded-ranged}
+use Rattle.mosaic_rows.specs.Around.{row-off, column-off}
 use Rattle.east_rows.specs.RowSums.{Small, along-at, east-at}
 use Rattle.east_rows.specs.EastRows.{East-reads}
 use Rattle.east_rows.specs.Cells.{cell}
-
--- column j − 8 + n, for n from 4 to 10
-step : (j n : ℕ) → subℕ (j + n) 8 ≡ pos j +ℤ subℕ n 8
-step j n = simp to-naturals (omega arith)
 
 -- a of row i + r two columns west of column j, which is at entry j + 6
 module _ (f : Frame) (i j : ℕ) (r : ℤ) (at : ℕ) (rows : List ℕ)
     (row : Loaded f (reflect (f .height) (pos i +ℤ r)) at rows) (near : j < f .width + 2) where
   read : (n k : ℕ) → n ≤ 10 → k ≡ at + (j + n) → pos (getD rows k 0) ≡ samples-around (mosaic f) i j r (subℕ n 8)
-  read n k h e = ap (λ (x : ℕ). pos (getD rows x 0)) e ∙ cell f i j r (subℕ n 8) at (j + n) rows row (omega arith) (step j n)
+  read n k h e = ap (λ (x : ℕ). pos (getD rows x 0)) e ∙ cell f i j r (subℕ n 8) at (j + n) rows row (omega arith) (column-off j n)
 
   along-of : along-at rows (at + 6 + j) ≡ six-tap-pair (samples-around (mosaic f) i j) r (negℤ (pos 2))
   unfolding along-at six-tap-pair six-tap
@@ -54,18 +50,10 @@ three-alongs h u m d = record {
   down = λ j l. d .inside j l;
 }
 
-up-one : (i : ℕ) → subℕ (i + 2 + 1) 4 ≡ pos i +ℤ negℤ (pos 1)
-up-one i = simp to-naturals (omega arith)
-
-level : (i : ℕ) → subℕ (i + 2 + 2) 4 ≡ pos i +ℤ pos 0
-level i = simp to-naturals (omega arith)
-
-down-one : (i : ℕ) → subℕ (i + 2 + 3) 4 ≡ pos i +ℤ pos 1
-down-one i = simp to-naturals (omega arith)
-
 module _ (f : Frame) (i : ℕ) (rows : List ℕ) (reads : East-reads f i rows) where
-  row-at : (p : ℕ) (r : ℤ) → p < 7 → subℕ (i + 2 + p) 4 ≡ pos i +ℤ r → Loaded f (reflect (f .height) (pos i +ℤ r)) (p * 4112) rows
-  row-at p r h e = subst (λ (y : ℤ). Loaded f (reflect (f .height) y) (p * 4112) rows) e (reads .seven .place p h)
+  -- the row at place p is p − 2 rows down from row i
+  row-at : (p : ℕ) → p < 7 → Loaded f (reflect (f .height) (pos i +ℤ subℕ p 2)) (p * 4112) rows
+  row-at p h = subst (λ (y : ℤ). Loaded f (reflect (f .height) y) (p * 4112) rows) (row-off i p) (reads .seven .place p h)
 
   pub row-small : (p : ℕ) → p < 7 → Small 4095 (p * 4112) (p * 4112 + f .width + 16) rows
   row-small p h = record {
@@ -87,10 +75,10 @@ module _ (f : Frame) (i : ℕ) (rows : List ℕ) (reads : East-reads f i rows) w
         rw (
           u,
           d,
-          sums .up j h ∙ along-of f i j (negℤ (pos 1)) 4112 rows (row-at 1 (negℤ (pos 1)) (omega arith) (up-one i)) h,
-          sums .down j h ∙ along-of f i j (pos 1) 12336 rows (row-at 3 (pos 1) (omega arith) (down-one i)) h,
-          read f i j (pos 0) 8224 rows (row-at 2 (pos 0) (omega arith) (level i)) h 6 (8224 + x) (omega arith) (omega arith),
-          read f i j (pos 0) 8224 rows (row-at 2 (pos 0) (omega arith) (level i)) h 8 (8224 + x + 2) (omega arith) (omega arith),
+          sums .up j h ∙ along-of f i j (negℤ (pos 1)) 4112 rows (row-at 1 (omega arith)) h,
+          sums .down j h ∙ along-of f i j (pos 1) 12336 rows (row-at 3 (omega arith)) h,
+          read f i j (pos 0) 8224 rows (row-at 2 (omega arith)) h 6 (8224 + x) (omega arith) (omega arith),
+          read f i j (pos 0) 8224 rows (row-at 2 (omega arith)) h 8 (8224 + x + 2) (omega arith) (omega arith),
           m,
-          sums .here j h ∙ along-of f i j (pos 0) 8224 rows (row-at 2 (pos 0) (omega arith) (level i)) h,
+          sums .here j h ∙ along-of f i j (pos 0) 8224 rows (row-at 2 (omega arith)) h,
         )

@@ -5,7 +5,6 @@ use Prim.Native.Nat.{ℕ, _+_, _*_, _-_, _<_, _≤_}
 use native.Mathlib.Omega.{arith}
 use lib.IntN.{ℤ, pos}
 use lib.ListN.{getD}
-use Rattle.toolkit.specs.Tests.{ltb-yes, ltb-no}
 use Rattle.toolkit.specs.Writes.{Wrote, wrote-as, wrote-then}
 use Rattle.frame.specs.Sites.{Frame}
 use Rattle.positions.specs.HalfRows.{chroma-start, half-count, chroma-count}
@@ -13,6 +12,7 @@ use Rattle.positions.specs.HalfRowLaws.{chroma-small, count-high}
 use Rattle.positions.specs.Places.{row-end}
 use Rattle.records.specs.Layout.{record-size}
 use Rattle.records.specs.Quantities.{wests, east-entry}
+use Rattle.records.specs.EntryLaws.{east-of-first, east-of-second}
 use Rattle.east_rows.specs.RowSums.{Small, East-room, along-at, east-at}
 use Rattle.east_rows.specs.EastRows.{East-reads, East-stored}
 use Rattle.east_rows.specs.SumLaws.{small-less, along-most}
@@ -72,16 +72,6 @@ halves-room f i c n at size w h e p q =
     let most = count-high (f .width) c in
     (omega arith, omega arith)
 
-first-entry : (f : Frame) (i k : ℕ) → k < chroma-count f i + 1 → east-entry f i k ≡ wests f i (chroma-start (f .phase) i + 2 * k)
-unfolding east-entry
-first-entry f i k h = rw (ltb-yes {m = k} {n = chroma-count f i + 1} h)
-
-second-entry : (f : Frame) (i k : ℕ) → east-entry f i (chroma-count f i + 1 + k) ≡ wests f i (1 - chroma-start (f .phase) i + 2 * k)
-unfolding east-entry
-second-entry f i k =
-    rw (ltb-no {m = chroma-count f i + 1 + k} {n = chroma-count f i + 1} (omega arith))
-    (ap (λ (n : ℕ). wests f i (1 - chroma-start (f .phase) i + 2 * n)) (omega arith))
-
 -- both halves, one behind the other
 module _ (f : Frame) (i : ℕ) (rows alongs : List ℕ) (reads : East-reads f i rows) (sums : Alongs (f .width) rows alongs) (c n at : ℕ)
     (start : c ≡ chroma-start (f .phase) i) (count : n ≡ half-count (f .width) c) (place : at ≡ i * record-size (f .width)) where
@@ -95,14 +85,14 @@ module _ (f : Frame) (i : ℕ) (rows alongs : List ℕ) (reads : East-reads f i 
   first-is : (k : ℕ) → k < n + 1 → pos (east-at rows alongs 4112 8224 12336 (c + 6 + 2 * k)) ≡ east-entry f i k
   first-is k h =
       east-of f i rows reads alongs sums (c + 2 * k) (c + 6 + 2 * k) (omega (arith, first-among (f .width) c n small count)) (omega arith)
-      ∙ (ap (λ (b : ℕ). wests f i (b + 2 * k)) start ∙ sym (first-entry f i k (omega (arith, counted))))
+      ∙ (ap (λ (b : ℕ). wests f i (b + 2 * k)) start ∙ sym (east-of-first f i k (omega (arith, counted))))
 
   second-is : (k : ℕ) → k < f .width - n + 1 → pos (east-at rows alongs 4112 8224 12336 (7 - c + 2 * k)) ≡ east-entry f i (n + 1 + k)
   second-is k h =
       east-of f i rows reads alongs sums (1 - c + 2 * k) (7 - c + 2 * k) (omega (arith, second-among (f .width) c n small count, small))
       (omega (arith, small))
       ∙ (ap (λ (b : ℕ). wests f i (1 - b + 2 * k)) start
-      ∙ (sym (second-entry f i k) ∙ ap (λ (b : ℕ). east-entry f i (b + 1 + k)) (sym counted)))
+      ∙ (sym (east-of-second f i k) ∙ ap (λ (b : ℕ). east-entry f i (b + 1 + k)) (sym counted)))
 
   pub east-stored : {old mid new : List ℤ}
       → Wrote (pos 0) at (n + 1) (λ (k : ℕ). pos (east-at rows alongs 4112 8224 12336 (c + 6 + 2 * k))) old mid

@@ -2,20 +2,19 @@
 use mathlib.Core.Path.{_≡_, refl, _∙_, ap₂}
 use mathlib.Core.Bool.{false}
 use mathlib.Core.List.{List}
-use Prim.Native.Nat.{ℕ, _+_, _*_, _<_, _≤_, _^_, min, max}
-use native.Mathlib.Nat.{lt-of-le-of-lt}
+use Prim.Native.Nat.{ℕ, _+_, _*_, _<_, _≤_, min, max}
 use native.Mathlib.Omega.{arith}
-use lib.Dec.{T, eqb, lit<}
-use lib.IntN.{ℤ, pos, negsuc, natAbs, _+ℤ_}
+use lib.Dec.{T, eqb}
+use lib.IntN.{ℤ, pos, natAbs, _+ℤ_}
 use lib.ListN.{getD}
-use lib.Signed.{_≤ℤ_, nonNeg, shrZ, mag}
+use lib.Signed.{_≤ℤ_, nonNeg, shrZ}
 use mir.Syntax.{w32, w64}
-use mir.Val.{Fits, SFits, toZ, ofZ, hbits}
+use mir.Val.{Fits, SFits, toZ, ofZ}
 use mir.Facts.{toZ-ofZ}
 use Rattle.toolkit.specs.Bounds.{fits, val, b-known}
 use Rattle.toolkit.specs.BoundRules.{vals}
+use Rattle.toolkit.specs.Naturals.{natural-cast}
 use Rattle.toolkit.specs.Shifts.{b-shift}
-use Rattle.half_rows.specs.Reading.{as-read}
 use Rattle.toolkit.specs.Tests.{by-test, eqb-eq, eqb-yes, ltb-yes, ltb-no}
 use Rattle.method.specs.Four.{directions, sizes}
 use Rattle.method.specs.Sizes.{Naturals}
@@ -38,11 +37,7 @@ settled Weak a b own = own
 
 -- a number that is not negative, cast to a u32
 pub cast-natural : (z : ℤ) → pos 0 ≤ℤ z → natAbs z ≤ 40920 → T (nonNeg (toZ w64 (ofZ w64 z))) × Fits w32 (natAbs (toZ w64 (ofZ w64 z)))
-cast-natural z h k = rw (toZ-ofZ {w = w64} {z = z} (fits (b-known z 40920 k tt) tt)) (go z h k)
-  where
-    go : (z : ℤ) → pos 0 ≤ℤ z → natAbs z ≤ 40920 → T (nonNeg z) × Fits w32 (natAbs z)
-    go (pos k) h l = (tt, record { fits = lt-of-le-of-lt l (lit< tt) })
-    go (negsuc k) h l = absurd (h .le)
+cast-natural z h k = rw (toZ-ofZ {w = w64} {z = z} (fits (b-known z 40920 k tt) tt)) (natural-cast {w = w32} z h (omega arith) tt)
 
 pub cast-value : (z : ℤ) → natAbs z ≤ 40920 → natAbs (toZ w64 (ofZ w64 z)) ≡ natAbs z
 cast-value z l = rw (toZ-ofZ {w = w64} {z = z} (fits (b-known z 40920 l tt) tt)) refl
@@ -117,15 +112,7 @@ module _ (g : List ℤ) (n : Naturals 40920 g) where
 pub larger : (h v : ℕ) → ¬ (h ≡ v) → v ≤ h → v < h
 larger h v o l = omega (arith, o)
 
--- ---- i32 elements that were read
-
-pub read-small : (z : ℤ) → mag z < 2 ^ hbits w32 → natAbs z ≤ 8184 → natAbs (toZ w32 (ofZ w32 z)) ≤ 8184
-read-small z g h = go (as-read {z = z} g) h
-  where
-    go : {x y : ℤ} → x ≡ y → natAbs y ≤ 8184 → natAbs x ≤ 8184
-    go e h = rw e h
-
--- the mean of two
+-- half of a sum of two i32 elements that were read
 pub sum-fits : (x y : ℤ) → natAbs x ≤ 8184 → natAbs y ≤ 8184 → SFits w32 (toZ w32 (ofZ w32 x) +ℤ toZ w32 (ofZ w32 y))
 sum-fits x y hx hy = fits (search vals depth 30) tt
 

@@ -1,22 +1,23 @@
 -- What the stores of N, E and S leave: the gradients of one row more. Assumes nothing.
-use mathlib.Core.Path.{_≡_, refl, _∙_, ap}
+use mathlib.Core.Path.{_≡_, refl, sym, _∙_, ap}
 use mathlib.Core.List.{List}
 use Prim.Native.Nat.{ℕ, _+_, _*_, _-_, _<_, _≤_, min}
 use native.Mathlib.Omega.{arith}
 use lib.Dec.{eqb, ltb}
 use lib.IntN.{ℤ, pos}
 use lib.ListN.{length, getD}
-use Rattle.toolkit.specs.Tests.{by-test, eqb-eq, eqb-ne, ltb-lt, ltb-ge, ltb-yes, ltb-no}
+use Rattle.toolkit.specs.Tests.{by-test, eqb-eq, eqb-ne, ltb-lt, ltb-ge}
 use Rattle.toolkit.specs.Writes.{Wrote, wrote-as, wrote-then}
 use Rattle.frame.specs.Sites.{Frame}
 use Rattle.positions.specs.HalfRows.{chroma-start, in-halves}
 use Rattle.positions.specs.Taken.{Taken}
 use Rattle.positions.specs.Places.{row-end}
 use Rattle.records.specs.Layout.{record-size, gradient-size, south-part, top-size}
-use Rattle.records.specs.Quantities.{norths, souths, east-entry, gradient-entry}
+use Rattle.records.specs.Quantities.{norths, east-entry, gradient-entry}
+use Rattle.records.specs.EntryLaws.{gradient-east, gradient-south}
+use Rattle.records.specs.Neighbours.{south-from-north}
 use Rattle.records.specs.Stages.{Gradients, First-reads, Tops-stored, Gradients-stored}
 use Rattle.east_rows.specs.EastRows.{East-stored}
-use Rattle.south_rows.specs.NorthRows.{south-from-north}
 use Rattle.mosaic_rows.specs.LoadedRows.{Seven}
 use Rattle.first_stage.specs.FirstStage.{Trials-read}
 
@@ -24,16 +25,13 @@ use Rattle.first_stage.specs.FirstStage.{Trials-read}
 pub gradients-stored : (f : Frame) (i at : ℕ) {old mid new : List ℤ} → East-stored f i old mid
     → Wrote (pos 0) at (f .width) (in-halves f (norths f) (i + 2)) mid new → at ≡ i * record-size (f .width) + south-part (f .width)
     → Gradients-stored f i old new
-unfolding gradient-entry
 gradients-stored f i at {old} {mid} {new} east south e = wrote-then (wrote-as east refl first) south (omega arith) (omega arith) second
   where
     first : (k : ℕ) → k < f .width + 2 → east-entry f i k ≡ gradient-entry f i k
-    first k h = rw (ltb-yes {m = k} {n = f .width + 2} h)
+    first k h = sym (gradient-east f i k h)
 
     second : (k : ℕ) → k < f .width → in-halves f (norths f) (i + 2) k ≡ gradient-entry f i (f .width + 2 + k)
-    second k h =
-        rw (ltb-no {m = f .width + 2 + k} {n = f .width + 2} (omega arith))
-        (south-from-north f i k ∙ ap (in-halves f (souths f) i) (omega arith))
+    second k h = south-from-north f i k ∙ sym (gradient-south f i k)
 
 module _ (f : Frame) (i : ℕ) {tops tops2 work work2 : List ℤ} (t : Taken f) (old : Gradients f (i - 2) i tops work)
     (top : Tops-stored f i tops tops2) (stored : Gradients-stored f i work work2) where

@@ -4,7 +4,7 @@ use mathlib.Core.List.{List}
 use Prim.Native.Nat.{ℕ, _+_, _*_, _-_, _<_, _≤_}
 use native.Mathlib.Omega.{arith}
 use lib.IntN.{ℤ, pos, natAbs}
-use lib.ListN.{length, getD}
+use lib.ListN.{getD}
 use Rattle.toolkit.specs.Entries.{Entries}
 use Rattle.toolkit.specs.Writes.{Wrote, wrote-as}
 use Rattle.frame.specs.Sites.{Frame}
@@ -14,8 +14,6 @@ use Rattle.method.specs.Sizes.{listed-naturals}
 use Rattle.method.specs.Green.{Direction}
 use Rattle.positions.specs.HalfRows.{half-count, chroma-count, chroma-row}
 use Rattle.positions.specs.HalfRowLaws.{count-column, count-high, count-most, chroma-small}
-use Rattle.positions.specs.Places.{area, row-end}
-use Rattle.positions.specs.Taken.{Taken}
 use Rattle.records.specs.Layout.{record-size, south-part}
 use Rattle.records.specs.Quantities.{trials}
 use Rattle.records.specs.Stages.{Chroma-stored}
@@ -29,14 +27,6 @@ use Rattle.first_stage.specs.FirstStage.{Trials-read}
 
 pub start-low : (f : Frame) (i c : ℕ) (rows : List ℕ) (tops work : List ℤ) → Trials-read f i c rows tops work → c ≤ 1
 start-low f i c rows tops work r = rw (r .start) (chroma-small (f .phase) i)
-
--- row i lies in its plane
-pub plane-room : (f : Frame) (i c count : ℕ) (plane : List ℤ) → Taken f → i < f .height → count ≡ half-count (f .width) c
-    → length plane ≡ f .height * f .width → (i * f .width + count ≤ length plane) × (length plane ≤ 16777216)
-plane-room f i c count plane t h e p = (
-  omega (arith, row-end (f .height) (f .width) i h, count-high (f .width) c),
-  omega (arith, area (f .height) (f .width) (t .low) (t .narrow)),
-)
 
 -- the rows that the lines read
 pub lines-small : (f : Frame) (i c count : ℕ) (rows : List ℕ) (tops work : List ℤ) → Trials-read f i c rows tops work

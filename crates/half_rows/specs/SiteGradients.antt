@@ -6,7 +6,7 @@ use native.Mathlib.Omega.{arith}
 use lib.Dec.{ltb}
 use lib.IntN.{ℤ, pos}
 use lib.ListN.{length, getD}
-use Rattle.toolkit.specs.Tests.{by-test, ltb-lt, ltb-ge, ltb-yes, ltb-no}
+use Rattle.toolkit.specs.Tests.{by-test, ltb-lt, ltb-ge}
 use Rattle.toolkit.specs.Entries.{Entries}
 use Rattle.frame.specs.Sites.{Frame}
 use Rattle.method.specs.Gradients.{mosaic, gradients-at}
@@ -15,10 +15,11 @@ use Rattle.method.specs.Sizes.{At-most, gradients-size}
 use Rattle.positions.specs.Taken.{Taken}
 use Rattle.positions.specs.Places.{room, row-end}
 use Rattle.positions.specs.HalfRows.{chroma-start, half-column, chroma-count, in-halves}
-use Rattle.positions.specs.HalfRowLaws.{first-half, second-half, count-high, chroma-even}
+use Rattle.positions.specs.HalfRowLaws.{first-half, second-half, count-high}
 use Rattle.records.specs.Layout.{record-size, south-part, top-size}
-use Rattle.records.specs.Quantities.{wests, souths, norths, east-entry, gradient-entry}
-use Rattle.records.specs.Neighbours.{east-is-west, south-is-north}
+use Rattle.records.specs.Quantities.{wests, souths, norths, east-entry}
+use Rattle.records.specs.EntryLaws.{east-of-first, east-of-second, gradient-east, gradient-south}
+use Rattle.records.specs.Neighbours.{east-is-west, south-from-north}
 use Rattle.records.specs.Stages.{Gradients, Lent}
 use Rattle.half_rows.specs.Sources.{north-entry, four-entries, North-room}
 use Rattle.half_rows.specs.Norths.{north-of-tops, north-of-work}
@@ -51,43 +52,24 @@ north-room f i at count tops work n l inside few size = record {
   row-size = size;
 }
 
--- ---- entries of E, of its two halves
-
-east-of-first : (f : Frame) (i k : ℕ) → k ≤ chroma-count f i → east-entry f i k ≡ wests f i (chroma-start (f .phase) i + 2 * k)
-unfolding east-entry
-east-of-first f i k h = rw (ltb-yes {m = k} {n = chroma-count f i + 1} (omega arith))
-
-east-of-second : (f : Frame) (i k : ℕ) → east-entry f i (chroma-count f i + 1 + k) ≡ wests f i (1 - chroma-start (f .phase) i + 2 * k)
-unfolding east-entry
-east-of-second f i k =
-    rw (ltb-no {m = chroma-count f i + 1 + k} {n = chroma-count f i + 1} (omega arith))
-    (ap (λ (x : ℕ). wests f i (1 - chroma-start (f .phase) i + 2 * x)) (omega arith))
-
 module _ (f : Frame) (i : ℕ) (tops work : List ℤ) (g : Gradients f (i - 2) (i + 1) tops work) where
   east-read : (a k : ℕ) → k < f .width + 2 → a ≡ i * record-size (f .width) → getD work (a + k) (pos 0) ≡ east-entry f i k
-  unfolding gradient-entry
   east-read a k h e =
       let p : a + k ≡ i * record-size (f .width) + 0 + k = omega arith in
       ap (λ (x : ℕ). getD work x (pos 0)) p
-      ∙ (g .records .row i (omega arith) (omega arith) k (omega arith) ∙ rw (ltb-yes {m = k} {n = south-part (f .width)} h))
+      ∙ (g .records .row i (omega arith) (omega arith) k (omega arith) ∙ gradient-east f i k h)
 
   south-read : (r a k : ℕ) → i - 2 ≤ r → r ≤ i → k < f .width → a ≡ r * record-size (f .width) + south-part (f .width)
       → getD work (a + k) (pos 0) ≡ in-halves f (souths f) r k
-  unfolding gradient-entry
   south-read r a k l h b e =
       let p : a + k ≡ r * record-size (f .width) + 0 + (south-part (f .width) + k) = omega arith in
       ap (λ (x : ℕ). getD work x (pos 0)) p
-      ∙ (g .records .row r l (omega arith) (south-part (f .width) + k) (omega arith)
-      ∙ rw (ltb-no {m = south-part (f .width) + k} {n = south-part (f .width)} (omega arith)) (ap (in-halves f (souths f) r) (omega arith)))
+      ∙ (g .records .row r l (omega arith) (south-part (f .width) + k) (omega arith) ∙ gradient-south f r k)
 
   two-down : (k : ℕ) → 2 ≤ i → in-halves f (souths f) (i - 2) k ≡ in-halves f (norths f) i k
-  unfolding in-halves souths norths
   two-down k h =
       let back : i - 2 + 2 ≡ i = omega arith in
-      let even : chroma-start (f .phase) (i - 2) ≡ chroma-start (f .phase) i = chroma-even (f .phase) i (i - 2) (omega arith) in
-      ap (λ (c : ℕ). pos (gradients-at (mosaic f) (i - 2) (half-column (f .width) c k) .south)) even
-      ∙ (ap pos (south-is-north (mosaic f) (i - 2) (half-column (f .width) (chroma-start (f .phase) i) k))
-      ∙ ap (λ (r : ℕ). pos (gradients-at (mosaic f) r (half-column (f .width) (chroma-start (f .phase) i) k) .north)) back)
+      sym (south-from-north f (i - 2) k) ∙ ap (λ (r : ℕ). in-halves f (norths f) r k) back
 
   north-read : (k : ℕ) → k < f .width → north-entry tops work (f .width) i k ≡ in-halves f (norths f) i k
   north-read k h = by-test (ltb i 2) _
@@ -133,7 +115,7 @@ module _ (f : Frame) (i : ℕ) (tops work : List ℤ) (g : Gradients f (i - 2) (
   site-gradients-first n east south count at k ee es ec ea =
       sites 0 0 (chroma-start (f .phase) i) (chroma-count f i)
       (λ x l. ap (half-column (f .width) (chroma-start (f .phase) i)) (zero-first x) ∙ first-half (f .width) (chroma-start (f .phase) i) x l)
-      (λ x l. ap (east-entry f i) (zero-first x) ∙ east-of-first f i x l)
+      (λ x l. ap (east-entry f i) (zero-first x) ∙ east-of-first f i x (omega arith))
       (omega (arith, count-high (f .width) (chroma-start (f .phase) i))) (omega (arith, count-high (f .width) (chroma-start (f .phase) i)))
       n east south count at k (omega arith) (omega arith) ec ea
     where

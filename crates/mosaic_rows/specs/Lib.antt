@@ -1,3 +1,4 @@
 pub mod LoadedRows
 pub mod EdgeLaws
 pub mod LoadLaws
+pub mod Around

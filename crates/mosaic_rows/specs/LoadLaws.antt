@@ -1,7 +1,7 @@
 -- What the loading of a row leaves, and of seven rows. Assumes nothing.
 use mathlib.Core.Path.{_≡_, _∙_}
 use mathlib.Core.List.{List}
-use Prim.Native.Nat.{ℕ, _+_, _*_, _-_, _<_, _≤_}
+use Prim.Native.Nat.{ℕ, _+_, _*_, _<_, _≤_}
 use native.Mathlib.Omega.{arith}
 use lib.Dec.{eqb}
 use lib.IntN.{subℕ}
@@ -11,15 +11,14 @@ use Rattle.toolkit.specs.Writes.{Wrote}
 use Rattle.frame.specs.Sites.{Frame, sample, reflect}
 use Rattle.positions.specs.Columns.{column-at}
 use Rattle.positions.specs.ColumnLaws.{column-lt}
-use Rattle.positions.specs.Places.{area, row-end}
+use Rattle.positions.specs.Places.{plane-row}
 use Rattle.positions.specs.Taken.{Taken}
 use Rattle.mosaic_rows.specs.LoadedRows.{Row-stored, Loaded, Seven}
 
 -- row i lies inside the mosaic
 pub row-inside : (f : Frame) (i : ℕ) → Taken f → i < f .height → (i * f .width + f .width ≤ length (f .samples)) × (i * f .width ≤ 16777216)
 row-inside f i t h =
-    let end = row-end (f .height) (f .width) i h in
-    let whole = area (f .height) (f .width) (t .low) (t .narrow) in
+    let row = plane-row f i (f .width) t h (omega arith) in
     (omega (arith, t .full), omega arith)
 
 -- the columns, then the reflected ones

@@ -1,6 +1,6 @@
 -- Local rows: column j stands at entry j + 8, between eight reflected columns on each side. Definitions alone. Assumes nothing.
 use Prim.Native.Nat.{ℕ}
-use lib.IntN.{ℤ, subℕ}
+use lib.IntN.{subℕ}
 use Rattle.frame.specs.Sites.{reflect}
 
 -- the column that entry x of a local row holds: x − 8, reflected

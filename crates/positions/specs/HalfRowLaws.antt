@@ -1,24 +1,18 @@
 -- Laws of half rows: which entry holds a column, also where it is reflected. Assumes nothing.
-use mathlib.Core.Path.{_≡_, refl, sym, _∙_, ap}
+use mathlib.Core.Path.{_≡_, _∙_, ap}
 use Prim.Native.Nat.{ℕ, _+_, _*_, _-_, _/_, _%_, _<_, _≤_}
 use native.Mathlib.Omega.{arith}
-use lib.IntN.{ℤ, pos, natAbs, subℕ}
+use lib.IntN.{subℕ}
 use Rattle.toolkit.specs.Tests.{by-test, ltb-yes, ltb-no, ltb-lt, ltb-ge}
 use lib.Dec.{ltb}
-use Rattle.frame.specs.Sites.{reflect}
-use Rattle.frame.specs.Reflection.{reflect-parity, reflect-lt, reflect-inside, abs-sub}
+use Rattle.frame.specs.Reflection.{reflect-parity, abs-sub}
 use Rattle.positions.specs.Columns.{column-at}
-use Rattle.positions.specs.ColumnLaws.{column-is, column-inside, column-lt}
 use Rattle.positions.specs.HalfRows.{chroma-start, half-count, half-column}
 
 -- both halves together
 pub both-counts : (W c : ℕ) → c ≤ 1 → 2 ≤ W → half-count W c + half-count W (1 - c) ≡ W
 unfolding half-count
 both-counts W c h w = omega arith
-
-pub count-low : (W c : ℕ) → c ≤ 1 → 2 ≤ W → 1 ≤ half-count W c
-unfolding half-count
-count-low W c h w = omega arith
 
 pub count-high : (W c : ℕ) → half-count W c ≤ W
 unfolding half-count
@@ -71,6 +65,15 @@ chroma-even p i r e = omega arith
 pub chroma-odd : (p i r : ℕ) → r % 2 ≡ (i + 1) % 2 → chroma-start p r ≡ 1 - chroma-start p i
 unfolding chroma-start
 chroma-odd p i r e = omega arith
+
+-- a half has at most (W + 1)/2 columns
+pub count-half : (W c : ℕ) → half-count W c ≤ (W + 1) / 2
+unfolding half-count
+count-half W c = omega arith
+
+pub rest-half : (W c : ℕ) → c ≤ 1 → W - half-count W c ≤ (W + 1) / 2
+unfolding half-count
+rest-half W c h = omega arith
 
 pub count-most : (W c : ℕ) → W ≤ 4096 → half-count W c ≤ 2048
 unfolding half-count

@@ -1,16 +1,16 @@
 -- A reflected row lies no farther off than the row itself. Assumes nothing.
-use mathlib.Core.Path.{_≡_, refl, sym, _∙_, ap}
-use Prim.Native.Nat.{ℕ, zero, suc, _+_, _*_, _-_, _/_, _%_, _<_, _≤_}
-use native.Mathlib.Nat.{div-add-mod', mod-lt}
+use mathlib.Core.Path.{_≡_, refl, _∙_, ap}
+use Prim.Native.Nat.{ℕ, zero, suc, _+_, _*_, _-_, _%_, _<_, _≤_}
+use native.Mathlib.Nat.{div-add-mod'}
 use native.Mathlib.Omega.{arith}
 use lib.Dec.{ltb, leb}
-use lib.IntN.{ℤ, pos, negsuc, negℤ, natAbs, _+ℤ_, subℕ}
+use lib.IntN.{pos, negℤ, natAbs, _+ℤ_, subℕ}
 use Rattle.toolkit.specs.Tests.{by-test, leb-le, leb-gt, ltb-lt, ltb-ge}
 use Rattle.frame.specs.Sites.{reflect}
 use Rattle.frame.specs.Reflection.{reflect-lt, reflect-inside, reflect-mirror, abs-sub}
 use Rattle.positions.specs.ColumnLaws.{fold-low, fold-high, reflect-distance, reflect-apart}
 
-pub reflect-le : (n x : ℕ) → 2 ≤ n → reflect n (pos x) ≤ x
+reflect-le : (n x : ℕ) → 2 ≤ n → reflect n (pos x) ≤ x
 reflect-le n x h = by-test (ltb (x % (2 * (n - 1))) n) _
     (λ t. let q : x % (2 * (n - 1)) < n = ltb-lt _ _ t in omega (arith, fold-low n x h q, div-add-mod' x (2 * (n - 1))))
     (λ t. let q : n ≤ x % (2 * (n - 1)) = ltb-ge _ _ t in omega (arith, fold-high n x h q, div-add-mod' x (2 * (n - 1))))

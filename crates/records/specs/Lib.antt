@@ -1,6 +1,7 @@
 pub mod Held
 pub mod Layout
 pub mod Quantities
+pub mod EntryLaws
 pub mod Stages
 pub mod Turns
 pub mod TurnLaws

@@ -4,7 +4,7 @@ use Prim.Native.Nat.{ℕ, _+_, _*_, _-_}
 use lib.Dec.{ltb}
 use lib.IntN.{ℤ, pos}
 use Rattle.frame.specs.Sites.{Frame, Colour, red, green, blue}
-use Rattle.method.specs.Gradients.{Mosaic, mosaic, gradients-at}
+use Rattle.method.specs.Gradients.{mosaic, gradients-at}
 use Rattle.method.specs.Green.{Direction, trial-difference}
 use Rattle.method.specs.Planes.{green-difference, final-difference, chroma-site-difference, output}
 use Rattle.positions.specs.HalfRows.{chroma-start, chroma-count, in-halves}

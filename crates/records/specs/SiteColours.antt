@@ -3,7 +3,7 @@ use mathlib.Core.Path.{_≡_, refl}
 use mathlib.Core.Bool.{false}
 use Prim.Native.Nat.{ℕ, zero, suc, _+_, _*_, _/_, _%_}
 use native.Mathlib.Omega.{arith}
-use Rattle.frame.specs.Sites.{Colour, red, green, blue, rggb, colour}
+use Rattle.frame.specs.Sites.{red, green, blue, rggb, colour}
 use Rattle.positions.specs.HalfRows.{chroma-start}
 use Rattle.positions.specs.HalfRowLaws.{chroma-small}
 use Rattle.method.specs.Planes.{same}

@@ -71,7 +71,8 @@ module _ {H L t s o : ℕ} {n : ℕ → ℕ} {q : ℕ → ℕ → ℤ} {old new 
       -- other rows of the buffer: as they were, where they don't meet the row that is stored
       turn-apart : ((r : ℕ) → lo ≤ r → r < hi → L ≤ t → t < H + L
           → (r < t - L) ⊎ ((t - L < r) ⊎ ((o' + n' r ≤ o) ⊎ (o + n (t - L) ≤ o')))) → Held s o' n' lo hi p old → Held s o' n' lo hi p new
-      turn-apart apart h = turned (Held s o' n' lo hi p) (λ e. h) (λ a b w. record { row = λ r x y k l. go w r k l (apart r x y a b) ∙ h .row r x y k l })
+      turn-apart apart h = turned (Held s o' n' lo hi p) (λ e. h)
+          (λ a b w. record { row = λ r x y k l. go w r k l (apart r x y a b) ∙ h .row r x y k l })
         where
           below : (w : Wrote (pos 0) ((t - L) * s + o) (n (t - L)) (q (t - L)) old new) (r k : ℕ) → k < n' r → r < t - L
               → getD new (r * s + o' + k) (pos 0) ≡ getD old (r * s + o' + k) (pos 0)
@@ -81,7 +82,8 @@ module _ {H L t s o : ℕ} {n : ℕ → ℕ} {q : ℕ → ℕ → ℤ} {old new 
               → getD new (r * s + o' + k) (pos 0) ≡ getD old (r * s + o' + k) (pos 0)
           above w r k l c = w .after (r * s + o' + k) (omega (arith, row-end r s (t - L) c, fit (t - L)))
 
-          level : (w : Wrote (pos 0) ((t - L) * s + o) (n (t - L)) (q (t - L)) old new) (r k : ℕ) → k < n' r → (r ≡ t - L → getD new (r * s + o' + k) (pos 0) ≡ getD old (r * s + o' + k) (pos 0))
+          level : (w : Wrote (pos 0) ((t - L) * s + o) (n (t - L)) (q (t - L)) old new) (r k : ℕ) → k < n' r
+              → (r ≡ t - L → getD new (r * s + o' + k) (pos 0) ≡ getD old (r * s + o' + k) (pos 0))
               → getD new (r * s + o' + k) (pos 0) ≡ getD old (r * s + o' + k) (pos 0)
           level w r k l same = by-test (ltb r (t - L)) _ (λ u. below w r k l (ltb-lt _ _ u))
               (λ u. by-test (ltb (t - L) r) _ (λ v. above w r k l (ltb-lt _ _ v))

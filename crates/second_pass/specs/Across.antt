@@ -8,7 +8,8 @@ use Rattle.toolkit.specs.Differences.{as-difference}
 use Rattle.toolkit.specs.Orders.{to-naturals}
 use Rattle.frame.specs.Sites.{Frame, Around}
 use Rattle.method.specs.Gradients.{mosaic, samples-around}
-use Rattle.method.specs.Green.{Outcome, equal, strong-across, strong-down, weak, first-pass-or, horizontal, vertical, diagonal, estimate, less-eight, outcome-at, green-or, trial-difference}
+use Rattle.method.specs.Green.{Outcome, equal, strong-across, strong-down, weak, first-pass-or, horizontal, vertical, diagonal}
+use Rattle.method.specs.Green.{estimate, less-eight, outcome-at, green-or, trial-difference}
 use Rattle.method.specs.GreenLaws.{diagonal-is-whole}
 use Rattle.records.specs.Quantities.{trials}
 

@@ -11,7 +11,8 @@ use lib.Signed.{ltZ}
 use Rattle.toolkit.specs.Writes.{Wrote, wrote-as}
 use Rattle.frame.specs.Sites.{Frame, around}
 use Rattle.method.specs.Gradients.{mosaic, exchanged}
-use Rattle.method.specs.Green.{Direction, horizontal, vertical, diagonal, reach, column-sum, horizontal-sum, vertical-sum, diagonal-sum, least-sum, second-pass, second-pass-at, green-at, trial-difference}
+use Rattle.method.specs.Green.{Direction, horizontal, vertical, diagonal, reach, column-sum, horizontal-sum, vertical-sum, diagonal-sum}
+use Rattle.method.specs.Green.{least-sum, second-pass, second-pass-at, green-at, trial-difference}
 use Rattle.method.specs.Planes.{green-difference}
 use Rattle.positions.specs.ColumnLaws.{column-inside}
 use Rattle.positions.specs.HalfRows.{chroma-start, chroma-count, chroma-row, Half}

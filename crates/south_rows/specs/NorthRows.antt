@@ -1,22 +1,22 @@
 -- N of a frame's row, from the seven rows about the one two rows up. Assumes nothing.
-use mathlib.Core.Path.{_≡_, refl, sym, _∙_, ap, ap₂}
+use mathlib.Core.Path.{_≡_, refl, _∙_, ap}
 use mathlib.Core.List.{List}
 use Prim.Native.Nat.{ℕ, _+_, _*_, _-_, _<_, _≤_}
 use native.Mathlib.Omega.{arith}
 use lib.IntN.{ℤ, pos, negℤ, natAbs, _+ℤ_, subℕ}
 use Rattle.toolkit.specs.Orders.{to-naturals}
 use Rattle.toolkit.specs.Writes.{Wrote, wrote-then, wrote-as}
-use Rattle.frame.specs.Sites.{Frame, sample, reflect, around}
+use Rattle.frame.specs.Sites.{Frame, reflect}
 use Rattle.method.specs.Gradients.{mosaic, samples-around, exchanged, gradients, gradients-at, west-gradient}
 use Rattle.positions.specs.Taken.{Taken}
-use Rattle.positions.specs.Columns.{column-at}
 use Rattle.positions.specs.HalfRows.{chroma-start, half-count, half-column, in-halves}
-use Rattle.positions.specs.HalfRowLaws.{first-half, second-half, half-column-lt, count-high, chroma-small, chroma-even}
-use Rattle.records.specs.Quantities.{norths, souths}
+use Rattle.positions.specs.HalfRowLaws.{first-half, second-half, half-column-lt, count-high, chroma-small}
+use Rattle.records.specs.Quantities.{norths}
 use Rattle.records.specs.GradientAlike.{eastbound-alike}
-use Rattle.records.specs.Neighbours.{south-is-north}
+use Rattle.records.specs.Neighbours.{start-two-down}
 use Rattle.mosaic_rows.specs.LoadedRows.{Seven}
 use Rattle.mosaic_rows.specs.LoadLaws.{loaded-ranged}
+use Rattle.mosaic_rows.specs.Around.{column-off, seven-around}
 use Rattle.south_rows.specs.SevenRows.{seven-rows, north-at, Small-rows, South-reads}
 use Rattle.south_rows.specs.SevenRowLaws.{at-place, entry-here, entry-west, entry-east}
 
@@ -36,28 +36,18 @@ module _ (f : Frame) (x : ℕ) (rows : List ℕ) (s : Seven f x rows) (j : ℕ) 
   -- entry k, where column k − 8 is column j + c
   cell : (k : ℕ) (c : ℤ) → natAbs (pos (j + 8) +ℤ c) ≡ k → subℕ k 8 ≡ pos j +ℤ c → k < f .width + 16 → (n : ℕ) → n ≤ 6
       → seven-rows rows (j + 8) (negℤ (pos 2) +ℤ subℕ n 2) c ≡ samples-around (mosaic f) x j (negℤ (pos 2) +ℤ subℕ n 2) c
-  unfolding around mosaic column-at
+  unfolding mosaic
   cell k c a e h n l =
       at-place rows (j + 8) n k (negℤ (pos 2) +ℤ subℕ n 2) c (place-of n) a
-      ∙ (ap pos (s .place n (omega arith) .entry k h)
-      ∙ ap₂ (λ (r d : ℤ). pos (sample f (reflect (f .height) r) (reflect (f .width) d))) (row-of x n) e)
+      ∙ seven-around f x j (negℤ (pos 2) +ℤ subℕ n 2) c x n k rows s (omega arith) h (row-of x n) e
 
   -- N(x,j) stands at entry j + 8
   north-of : j < f .width → north-at rows (j + 8) ≡ gradients-at (mosaic f) x j .north
   unfolding north-at gradients-at gradients west-gradient
   north-of h = eastbound-alike (exchanged (seven-rows rows (j + 8))) (exchanged (samples-around (mosaic f) x j)) (negℤ (pos 2)) (negℤ (pos 2))
-      (cell (j + 8 - 1) (negℤ (pos 1)) (entry-west (j + 8) (omega arith)) (column-west j) (omega arith))
-      (cell (j + 8) (pos 0) (entry-here (j + 8)) (column-here j) (omega arith))
-      (cell (j + 8 + 1) (pos 1) (entry-east (j + 8)) (column-east j) (omega arith))
-    where
-      column-west : (j : ℕ) → subℕ (j + 8 - 1) 8 ≡ pos j +ℤ negℤ (pos 1)
-      column-west j = simp to-naturals (omega arith)
-
-      column-here : (j : ℕ) → subℕ (j + 8) 8 ≡ pos j +ℤ pos 0
-      column-here j = simp to-naturals (omega arith)
-
-      column-east : (j : ℕ) → subℕ (j + 8 + 1) 8 ≡ pos j +ℤ pos 1
-      column-east j = simp to-naturals (omega arith)
+      (cell (j + 7) (negℤ (pos 1)) (entry-west (j + 8) (omega arith) ∙ omega arith) (column-off j 7) (omega arith))
+      (cell (j + 8) (pos 0) (entry-here (j + 8)) (column-off j 8) (omega arith))
+      (cell (j + 9) (pos 1) (entry-east (j + 8) ∙ omega arith) (column-off j 9) (omega arith))
 
 module _ (f : Frame) (x c : ℕ) (rows : List ℕ) (reads : South-reads f x c rows) where
   -- entry k of the row in halves stands at entry m of the local rows
@@ -89,19 +79,7 @@ module _ (f : Frame) (x c : ℕ) (rows : List ℕ) (reads : South-reads f x c ro
           half-entry (n + k) (9 - c + 2 * k) (omega (arith, low))
           (omega (arith, ap (λ (m : ℕ). half-column (f .width) c (m + k)) e, second-half (f .width) c k, chroma-small (f .phase) x, reads .start))
 
--- rows two apart start their halves at the same column
-pub start-two-down : (p i : ℕ) → chroma-start p i ≡ chroma-start p (i + 2)
-start-two-down p i = chroma-even p (i + 2) i (omega arith)
-
+-- the rows that serve row i + 2
 pub reads-two-down : (i : ℕ) {f : Frame} {c : ℕ} {rows : List ℕ} → Taken f → c ≡ chroma-start (f .phase) i → Seven f (i + 2) rows
     → South-reads f (i + 2) c rows
 reads-two-down i {f} t e s = record { taken = t; start = e ∙ start-two-down (f .phase) i; seven = s }
-
--- N two rows down is S
-pub south-from-north : (f : Frame) (i k : ℕ) → in-halves f (norths f) (i + 2) k ≡ in-halves f (souths f) i k
-unfolding in-halves norths souths
-south-from-north f i k = rw (sym (start-two-down (f .phase) i)) (ap pos (sym (south-is-north (mosaic f) i _)))
-
-pub souths-stored : (f : Frame) (i : ℕ) {at n : ℕ} {old new : List ℤ} → Wrote (pos 0) at n (in-halves f (norths f) (i + 2)) old new
-    → Wrote (pos 0) at n (in-halves f (souths f) i) old new
-souths-stored f i w = wrote-as w refl (λ k h. south-from-north f i k)

@@ -1,7 +1,7 @@
 -- |x − y|, as the code forms it. Assumes nothing.
 use mathlib.Core.Path.{_≡_}
 use mathlib.Core.Bool.{true, false}
-use Prim.Native.Nat.{ℕ, _≤_}
+use Prim.Native.Nat.{_≤_}
 use native.Mathlib.Omega.{arith}
 use lib.IntN.{ℤ, pos, natAbs, _+ℤ_, _-ℤ_}
 use lib.Signed.{ltZ}
@@ -25,6 +25,3 @@ apart-most x y = rw (as-difference x, as-difference y) (simp to-naturals (omega 
 pub gaps-read : (s r a b x y z : ℤ) {x′ y′ z′ : ℤ} → x′ ≡ x → y′ ≡ y → z′ ≡ z → r ≡ s → a ≡ pos (apart x′ y′) → b ≡ pos (apart x′ z′)
     → r +ℤ a +ℤ b ≡ s +ℤ pos (apart x y) +ℤ pos (apart x z)
 gaps-read s r a b x y z ex ey ez er ea eb = rw (er, ea, eb, ex, ey, ez)
-
-pub size-read : {m : ℕ} {z′ : ℤ} (z : ℤ) → z′ ≡ z → natAbs z ≤ m → natAbs z′ ≤ m
-size-read z e h = rw e h

@@ -10,7 +10,7 @@ use Rattle.frame.specs.Sites.{Frame, reflect}
 use Rattle.method.specs.Green.{Direction, horizontal, vertical, diagonal}
 use Rattle.positions.specs.HalfRows.{chroma-start, chroma-count, Half}
 use Rattle.positions.specs.HalfRowLaws.{count-high, count-most}
-use Rattle.positions.specs.Places.{area, row-end}
+use Rattle.positions.specs.Places.{plane-row}
 use Rattle.records.specs.Quantities.{trials}
 use Rattle.records.specs.Stages.{Second-reads}
 use Rattle.half_rows.specs.Near.{chroma-count-is}
@@ -35,9 +35,7 @@ module _ {f : Frame} {i count : ℕ} {diagonals verticals : List ℤ} (read : Se
 
   -- where a row of a plane starts
   pub row-place : (r : ℕ) → r < f .height → (r * f .width + count ≤ f .height * f .width) × (f .height * f .width ≤ 16777216)
-  row-place r l =
-      let t = read .taken in
-      (omega (arith, row-end (f .height) (f .width) r l, count-room .1), area (f .height) (f .width) (t .low) (t .narrow))
+  row-place r l = plane-row f r count (read .taken) l (count-room .1)
 
 module _ {f : Frame} {i count : ℕ} {diagonals verticals ph pv pd : List ℤ} (read : Sums-read f i diagonals verticals ph pv pd)
     (same : count ≡ chroma-count f i) where

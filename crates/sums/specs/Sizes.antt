@@ -18,10 +18,11 @@ use Rattle.positions.specs.ColumnLaws.{column-lt}
 use Rattle.positions.specs.HalfRows.{chroma-start, chroma-count, Half}
 use Rattle.positions.specs.HalfRowLaws.{chroma-small, count-column}
 use Rattle.records.specs.Quantities.{trials}
+use Rattle.half_rows.specs.Reading.{size-read}
 use Rattle.half_rows.specs.Near.{chroma-count-is, entry-of-row}
 use Rattle.sums.specs.Sums.{with-columns, with-rows, Held-near, Row-near, Sized}
 use Rattle.sums.specs.Nearby.{counts-alike}
-use Rattle.sums.specs.Gaps.{apart-most, size-read}
+use Rattle.sums.specs.Gaps.{apart-most}
 
 pub sized-as : {m n lo hi l h : ℕ} {row : List ℤ} → Sized m lo hi row → m ≤ n → lo ≤ l → h ≤ hi → Sized n l h row
 sized-as s a b c = record { each = λ x p q. omega (arith, s .each x (omega arith) (omega arith)) }

@@ -29,7 +29,7 @@ west-step c x n h l = simp to-naturals (omega arith)
 east-step : (c x n : ℕ) → 4 ≤ x → subℕ (c + 2 * (x + suc n)) 8 ≡ pos (c + 2 * (x - 4)) +ℤ (pos 2 *ℤ pos (suc n))
 east-step c x n h = simp to-naturals (omega arith)
 
-pub up-step : (i n : ℕ) → subℕ i (2 * suc n) ≡ pos i +ℤ (pos 2 *ℤ negsuc n)
+up-step : (i n : ℕ) → subℕ i (2 * suc n) ≡ pos i +ℤ (pos 2 *ℤ negsuc n)
 up-step i n = simp to-naturals (omega arith)
 
 -- the middle of a half row that is mirrored

@@ -30,7 +30,7 @@ module _ (f : Frame) (i n count up down above below : ℕ) (diagonals verticals 
     (eb : below ≡ reflect (f .height) (pos (i + 2 * suc n))) (eu : up ≡ above * f .width) (ed : down ≡ below * f .width)
     (read : Sums-read f i diagonals verticals ph pv pd)
     (new : Stepped (suc n) up down count diagonals verticals ph pv pd fh fv fd new-fh new-fv mid-fd new-fd) where
-  pub step-next : Sums f n i fh fv fd → Sums f (suc n) i new-fh new-fv new-fd
+  step-next : Sums f n i fh fv fd → Sums f (suc n) i new-fh new-fv new-fd
   step-next old = let p = read .planes in record {
     across = entries-as (new .across) (omega arith) (omega arith) (λ x a b.
         columns-next f (p .taken) i (p .inside) (trials f horizontal) n few x a (omega arith) ph fh _ _ 0 (read .across-row)

@@ -3,7 +3,7 @@ use frame::Shape;
 ghost use mathlib.Core.Path.{_≡_};
 ghost use mathlib.Core.List.{List};
 ghost use Prim.Native.Nat.{ℕ, _+_, _*_, _-_, _<_, _≤_};
-ghost use lib.IntN.{ℤ, pos, natAbs, _+ℤ_};
+ghost use lib.IntN.{pos, natAbs, _+ℤ_};
 ghost use lib.ListN.{length};
 ghost use Rattle.toolkit.specs.Entries.{Entries};
 ghost use Rattle.frame.specs.Sites.{frame};

@@ -1,5 +1,5 @@
 -- What a row of n entries holds, entry by entry, as a loop fills it. Assumes nothing.
-use mathlib.Core.Path.{_≡_, refl, sym, _∙_}
+use mathlib.Core.Path.{_≡_, _∙_}
 use mathlib.Core.List.{List}
 use Prim.Native.Nat.{ℕ, _+_, _<_, _≤_}
 use native.Mathlib.Omega.{arith}
@@ -13,7 +13,8 @@ pub record Entries {A : Type 0} (d : A) (n lo hi : ℕ) (f : ℕ → A) (row : L
   pub size : length row ≡ n
   pub at : (k : ℕ) → lo ≤ k → k < hi → getD row k d ≡ f k
 
-apart-below : (k i h : ℕ) → h ≡ i + 1 → k < h → ¬ (k ≡ i) → k < i
+-- k stands before h, the one after i, and is not i
+pub apart-below : (k i h : ℕ) → h ≡ i + 1 → k < h → ¬ (k ≡ i) → k < i
 apart-below k i h e b o = omega (arith, o)
 
 apart-above : (k i l : ℕ) → l ≡ i + 1 → i ≤ k → ¬ (k ≡ i) → l ≤ k

@@ -1,22 +1,20 @@
 -- What a store of n entries from a on leaves of a buffer. Assumes nothing.
-use mathlib.Core.Path.{_≡_, refl, sym, _∙_, ap}
-use mathlib.Core.List.{List, _++_}
-use Prim.Native.Nat.{ℕ, _+_, _*_, _-_, _/_, _%_, _<_, _≤_}
+use mathlib.Core.Path.{_≡_, refl, _∙_, ap}
+use mathlib.Core.List.{List}
+use Prim.Native.Nat.{ℕ, _+_, _-_, _<_, _≤_}
 use native.Mathlib.Omega.{arith}
 use lib.Dec.{eqb, ltb}
-use lib.ListN.{length, getD, set, take, drop, length-set, length-append, length-take, length-drop, List·getD-append}
-use lib.Seq.{getD-set-same, getD-set-other, getD-take, getD-drop, getD-append-add, ext-getD}
+use lib.ListN.{length, getD, set, length-set}
+use lib.Seq.{getD-set-same, getD-set-other}
 use Rattle.toolkit.specs.Tests.{by-test, eqb-eq, eqb-ne, ltb-lt, ltb-ge}
-use Rattle.toolkit.specs.Tables.{tabulate, is-tabulate}
+use Rattle.toolkit.specs.Entries.{apart-below}
 
+-- the entries a to a + n − 1 are f's, the others are as they were
 pub record Wrote {A : Type 0} (d : A) (a n : ℕ) (f : ℕ → A) (old new : List A) : Type 0 where
   pub size : length new ≡ length old
   pub inside : (k : ℕ) → k < n → getD new (a + k) d ≡ f k
   pub before : (k : ℕ) → k < a → getD new k d ≡ getD old k d
   pub after : (k : ℕ) → a + n ≤ k → getD new k d ≡ getD old k d
-
-apart-below : (k n : ℕ) → k < n + 1 → ¬ (k ≡ n) → k < n
-apart-below k n b o = omega (arith, o)
 
 not-before : (k a n : ℕ) → k < a → ¬ (k ≡ a + n)
 not-before k a n h e = omega arith
@@ -37,7 +35,7 @@ module _ {A : Type 0} where
     size = length-set new (a + n) v ∙ w .size;
     inside = λ k h. by-test (eqb k n) _
         (λ t. let q : k ≡ n = eqb-eq k n t in rw q (getD-set-same new (a + n) v d (omega (arith, w .size)) ∙ e))
-        (λ t. getD-set-other new (a + n) (a + k) v d (not-same a k n (eqb-ne t)) ∙ w .inside k (apart-below k n h (eqb-ne t)));
+        (λ t. getD-set-other new (a + n) (a + k) v d (not-same a k n (eqb-ne t)) ∙ w .inside k (apart-below k n (n + 1) refl h (eqb-ne t)));
     before = λ k h. getD-set-other new (a + n) k v d (not-before k a n h) ∙ w .before k h;
     after = λ k h. getD-set-other new (a + n) k v d (not-after k a n h) ∙ w .after k (omega arith);
   }
@@ -66,15 +64,3 @@ module _ {A : Type 0} where
     before = w .before;
     after = λ k h. w .after k (omega arith);
   }
-
-  -- the part that was stored
-  pub wrote-part : {d : A} {a n : ℕ} {f : ℕ → A} {old new : List A} → Wrote d a n f old new → a + n ≤ length old → take n (drop a new) ≡ tabulate n f
-  wrote-part {d} {a} {n} {f} {old} {new} w h = is-tabulate n f (take n (drop a new)) d
-      (length-take n (drop a new) ∙ omega (arith, length-drop a new, w .size))
-      (λ k l. getD-take n (drop a new) k d l ∙ (getD-drop a new k d ∙ w .inside k l))
-
-  -- and the rest
-  pub wrote-rest : {d : A} {n : ℕ} {f : ℕ → A} {old new : List A} → Wrote d 0 n f old new → drop n new ≡ drop n old
-  wrote-rest {d} {n} {f} {old} {new} w = ext-getD d (drop n new) (drop n old)
-      (length-drop n new ∙ (omega (arith, w .size, length-drop n old)))
-      (λ k l. getD-drop n new k d ∙ (w .after (n + k) (omega arith) ∙ sym (getD-drop n old k d)))

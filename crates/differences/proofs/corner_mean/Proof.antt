@@ -1,3 +1,4 @@
+-- `differences::corner_mean` meets its contract. Assumes nothing.
 use mathlib.Core.Path.{_≡_, _∙_}
 use lib.Dec.{lit≤}
 use Rattle.toolkit.specs.Bounds.{fits, val}
@@ -11,14 +12,18 @@ use borrow.Author.Needs.{needs}
 use Rattle.differences.proofs.corner_mean.Statement.{statement}
 use Rattle.differences.proofs.corner_mean.Tie as tie
 
-values-are : (c : tie.After-values) → let a = c .before .before .before .before .before .args in c .values .result ≡ corners-read (a .up .now) (a .down .now) (a .c) (a .k)
+values-are : (c : tie.After-values) →
+    let a = c .before .before .before .before .before .args in
+    c .values .result ≡ corners-read (a .up .now) (a .down .now) (a .c) (a .k)
 values-are c =
     c .values .ensures
-    ∙ same-four (as-read (c .before .before .before .before .values-arg .given)) (as-read (c .before .before .before .values-arg2 .given)) (as-read (c .before .before .values-arg3 .given))
-    (as-read (c .before .values-arg4 .given))
+    ∙ same-four (as-read (c .before .before .before .before .values-arg .given)) (as-read (c .before .before .before .values-arg2 .given))
+    (as-read (c .before .before .values-arg3 .given)) (as-read (c .before .values-arg4 .given))
 
 diagonal-requires : tie.Need-diagonal-requires
-diagonal-requires c κs = let s = c .before .before .before .before .before .before in rw (c .four .ensures) (naturals-as (lit≤ tt) (s .pre .0 .2 .each _ (s .pre .0 .0)))
+diagonal-requires c κs =
+    let s = c .before .before .before .before .before .before in
+    rw (c .four .ensures) (naturals-as (lit≤ tt) (s .pre .0 .2 .each _ (s .pre .0 .0)))
 
 lifted-mean-requires : tie.Need-lifted-mean-requires
 lifted-mean-requires c κs =

@@ -1,3 +1,4 @@
+-- `differences::corner_means` meets its contract. The loop has formed the means of k sites. Assumes nothing.
 use mathlib.Core.Path.{_≡_, refl, _∙_, ap}
 use Prim.Native.Nat.{ℕ, _+_, _-_, _≤_}
 use native.Mathlib.Omega.{arith}

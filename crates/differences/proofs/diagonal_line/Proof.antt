@@ -1,4 +1,4 @@
-use mathlib.Core.Path.{_≡_, _∙_}
+-- `differences::diagonal_line` meets its contract. What is formed of row i is a `Diagonal-row` of any frame whose rows these are. Assumes nothing.
 use native.Mathlib.Omega.{arith}
 use Rattle.half_rows.specs.SiteGradients.{north-room, work-most}
 use Rattle.differences.specs.GradientRow.{sites-few, sites-inside, other-room, gradients-fit}
@@ -7,78 +7,145 @@ use borrow.Author.Needs.{needs}
 use Rattle.differences.proofs.diagonal_line.Statement.{statement}
 use Rattle.differences.proofs.diagonal_line.Tie as tie
 
+-- the calls before a call: the row above is placed first, then the row below
+abbrev counted : tie.After-final-at → tie.After-half-count
+counted c = c .before .before .before .before .before .before
+
+abbrev upper : tie.After-final-at2 → tie.After-final-at
+upper c = c .before .before .before .before .before
+
+abbrev lower : tie.After-mirror2 → tie.After-final-at2
+lower c = c .before .before .before .before .before .before
+
+abbrev mirrored : tie.After-corner-means → tie.After-mirror2
+mirrored c = c .before .before .before .before .before .before .before .before
+
 north-requires : tie.Need-north-requires
 north-requires c κs =
-    let lent = c .before .before .before .before .pre .0 .holds .lent in
-    let start = c .before .before .before .first-chroma .ensures .0 in
-    let sites = c .before .before .half-count .ensures .0 in
-    north-room _ _ 0 _ _ _ _ lent (sites-inside lent start sites) (sites-few lent start sites) (c .before .before .before .before .pre .1 .0)
+    let count = c .before .before in
+    let start = count .before .before in
+    let lent = start .pre .0 .holds .lent in
+    let first = count .before .first-chroma .ensures .0 in
+    let sites = count .half-count .ensures .0 in
+    north-room _ _ 0 _ _ _ _ lent (sites-inside lent first sites) (sites-few lent first sites) (start .pre .1 .0)
 
 sub-copy : tie.Need-sub-copy
-sub-copy c = omega (arith, sites-inside (c .before .before .before .before .before .before .before .before .pre .0 .holds .lent) (c .before .before .before .before .before .before .before .first-chroma .ensures .0) (c .before .before .before .before .before .before .half-count .ensures .0))
+sub-copy c =
+    let count = counted c in
+    omega (arith, sites-inside (count .before .before .pre .0 .holds .lent) (count .before .first-chroma .ensures .0) (count .half-count .ensures .0))
 
 copy-requires : tie.Need-copy-requires
 copy-requires c κs =
-    let lent = c .before .before .before .before .before .before .before .before .before .pre .0 .holds .lent in
-    let start = c .before .before .before .before .before .before .before .before .first-chroma .ensures .0 in
-    let sites = c .before .before .before .before .before .before .before .half-count .ensures .0 in
-    (rest-room lent start sites _ (c .before .before .reflected-less .ensures .1) (c .before .final-at .ensures), work-most _ _ _ _ lent, rest-few lent start sites, c .before .before .before .before .before .before .before .before .before .pre .1 .1)
+    let place = c .before in
+    let count = counted place in
+    let start = count .before .before in
+    let lent = start .pre .0 .holds .lent in
+    let first = count .before .first-chroma .ensures .0 in
+    let sites = count .half-count .ensures .0 in (
+      rest-room lent first sites _ (place .before .reflected-less .ensures .1) (place .final-at .ensures),
+      work-most _ _ _ _ lent,
+      rest-few lent first sites,
+      start .pre .1 .1,
+    )
 
 sub-copy-2 : tie.Need-sub-copy-2
-sub-copy-2 c = omega (arith, sites-inside (c .before .before .before .before .before .before .before .before .before .before .before .before .before .pre .0 .holds .lent) (c .before .before .before .before .before .before .before .before .before .before .before .before .first-chroma .ensures .0) (c .before .before .before .before .before .before .before .before .before .before .before .half-count .ensures .0))
+sub-copy-2 c =
+    let count = counted (upper c) in
+    omega (arith, sites-inside (count .before .before .pre .0 .holds .lent) (count .before .first-chroma .ensures .0) (count .half-count .ensures .0))
 
 copy-requires-2 : tie.Need-copy-requires-2
 copy-requires-2 c κs =
-    let lent = c .before .before .before .before .before .before .before .before .before .before .before .before .before .before .pre .0 .holds .lent in
-    let start = c .before .before .before .before .before .before .before .before .before .before .before .before .before .first-chroma .ensures .0 in
-    let sites = c .before .before .before .before .before .before .before .before .before .before .before .before .half-count .ensures .0 in
-    (rest-room lent start sites _ (c .before .before .reflected .ensures .1) (c .before .final-at2 .ensures), work-most _ _ _ _ lent, rest-few lent start sites, c .before .before .before .before .before .before .before .before .before .before .before .before .before .before .pre .1 .2)
+    let place = c .before in
+    let count = counted (upper place) in
+    let start = count .before .before in
+    let lent = start .pre .0 .holds .lent in
+    let first = count .before .first-chroma .ensures .0 in
+    let sites = count .half-count .ensures .0 in (
+      rest-room lent first sites _ (place .before .reflected .ensures .1) (place .final-at2 .ensures),
+      work-most _ _ _ _ lent,
+      rest-few lent first sites,
+      start .pre .1 .2,
+    )
 
 mirror-requires : tie.Need-mirror-requires
 mirror-requires c κs =
-    let taken = c .before .before .before .before .before .before .before .before .before .before .before .before .before .before .before .before .pre .0 .holds .lent .taken in
-    (taken .wide, taken .narrow, omega arith, omega arith, c .before .before .before .before .before .before .copy .ensures .size)
+    let place = c .before .before .before in
+    let taken = counted (upper place) .before .before .pre .0 .holds .lent .taken in
+    (taken .wide, taken .narrow, omega arith, omega arith, place .before .before .before .copy .ensures .size)
 
 mirror-requires-2 : tie.Need-mirror-requires-2
 mirror-requires-2 c κs =
-    let taken = c .before .before .before .before .before .before .before .before .before .before .before .before .before .before .before .before .before .before .pre .0 .holds .lent .taken in
-    (taken .wide, taken .narrow, omega arith, omega arith, c .before .before .before .copy2 .ensures .size)
+    let copy = c .before .before .before in
+    let taken = counted (upper (copy .before .before)) .before .before .pre .0 .holds .lent .taken in
+    (taken .wide, taken .narrow, omega arith, omega arith, copy .copy2 .ensures .size)
 
 record-at-requires : tie.Need-record-at-requires
-record-at-requires c κs = let lent = c .before .before .before .before .before .before .before .before .before .before .before .before .before .before .before .before .before .before .before .before .pre .0 .holds .lent in (lent .taken .narrow, omega (arith, lent .inside, lent .taken .low))
+record-at-requires c κs =
+    let lent = counted (upper (lower (c .before))) .before .before .pre .0 .holds .lent in
+    (lent .taken .narrow, omega (arith, lent .inside, lent .taken .low))
 
 south-at-requires : tie.Need-south-at-requires
-south-at-requires c κs = let lent = c .before .before .before .before .before .before .before .before .before .before .before .before .before .before .before .before .before .before .before .before .before .pre .0 .holds .lent in (lent .taken .narrow, omega (arith, lent .inside, lent .taken .low))
+south-at-requires c κs =
+    let lent = counted (upper (lower (c .before .before))) .before .before .pre .0 .holds .lent in
+    (lent .taken .narrow, omega (arith, lent .inside, lent .taken .low))
 
 corner-means-requires : tie.Need-corner-means-requires
 corner-means-requires c κs =
-    let row = diagonal-row (c .before .before .before .before .before .before .before .before .before .before .before .before .before .before .before .before .before .before .before .before .before .before .before .before .before .before .pre .0 .holds) (c .before .before .before .before .before .before .before .before .before .before .before .before .before .before .before .before .before .before .before .before .before .before .before .before .before .first-chroma .ensures .0) (c .before .before .before .before .before .before .before .before .before .before .before .before .before .before .before .before .before .before .before .before .before .before .before .before .half-count .ensures .0) (c .before .before .before .before .before .before .before .before .before .before .before .before .before .before .before .before .before .before .before .before .before .north .ensures)
-    (c .before .before .before .before .before .before .before .before .before .before .before .before .before .before .before .before .before .before .before .reflected-less .ensures .0) (c .before .before .before .before .before .before .before .before .before .before .before .before .before .before .reflected .ensures .0) (row-one-off (c .before .before .before .before .before .before .before .before .before .before .before .before .before .before .before .before .before .before .final-at .ensures) (c .before .before .before .before .before .before .before .before .before .before .before .before .before .before .before .before .copy .ensures) (c .before .before .before .before .before .before .before .before .before .mirror .ensures))
-    (row-one-off (c .before .before .before .before .before .before .before .before .before .before .before .before .before .final-at2 .ensures) (c .before .before .before .before .before .before .before .before .before .before .before .copy2 .ensures) (c .before .before .before .before .before .before .before .mirror2 .ensures)) in (
-      (c .before .before .before .before .before .before .before .before .before .before .before .before .before .before .before .before .before .before .before .before .before .before .before .before .before .first-chroma .ensures .1, gradients-fit (row .gradient-row) _ _ (c .before .before .before .before .before .record-at .ensures .0) (c .before .before .before .before .south-at .ensures), c .before .before .before .before .before .before .before .before .before .before .before .before .before .before .before .before .before .before .before .before .before .before .before .before .before .before .pre .1 .3),
+    let records = c .before .before .before .before in
+    let mirror = records .before .before .before in
+    let down = lower mirror in
+    let up = upper down in
+    let count = counted up in
+    let start = count .before .before in
+    let row = diagonal-row (start .pre .0 .holds) (count .before .first-chroma .ensures .0) (count .half-count .ensures .0)
+    (up .before .before .before .north .ensures) (up .before .reflected-less .ensures .0) (down .before .reflected .ensures .0)
+    (row-one-off (up .final-at .ensures) (down .before .before .before .copy .ensures) (mirror .before .before .mirror .ensures))
+    (row-one-off (down .final-at2 .ensures) (mirror .before .before .before .before .copy2 .ensures) (mirror .mirror2 .ensures)) in (
+      (
+        count .before .first-chroma .ensures .1,
+        gradients-fit (row .gradient-row) _ _ (records .before .record-at .ensures .0) (records .south-at .ensures),
+        start .pre .1 .3,
+      ),
       corner-values-fit row,
     )
 
 other-at-requires : tie.Need-other-at-requires
-other-at-requires c κs = let lent = c .before .before .before .before .before .before .before .before .before .before .before .before .before .before .before .before .before .before .before .before .before .before .before .before .before .before .before .before .before .pre .0 .holds .lent in (lent .taken .narrow, omega (arith, lent .inside, lent .taken .low))
+other-at-requires c κs =
+    let lent = counted (upper (lower (mirrored (c .before .before)))) .before .before .pre .0 .holds .lent in
+    (lent .taken .narrow, omega (arith, lent .inside, lent .taken .low))
 
 store-requires : tie.Need-store-requires
 store-requires c κs =
-    let lent = c .before .before .before .before .before .before .before .before .before .before .before .before .before .before .before .before .before .before .before .before .before .before .before .before .before .before .before .before .before .before .pre .0 .holds .lent in
-    let start = c .before .before .before .before .before .before .before .before .before .before .before .before .before .before .before .before .before .before .before .before .before .before .before .before .before .before .before .before .before .first-chroma .ensures .0 in
-    let sites = c .before .before .before .before .before .before .before .before .before .before .before .before .before .before .before .before .before .before .before .before .before .before .before .before .before .before .before .before .half-count .ensures .0 in
-    (sites-few lent start sites, other-room lent start sites (c .other-at .ensures), work-most _ _ _ _ lent)
+    let count = counted (upper (lower (mirrored (c .before .before .before)))) in
+    let lent = count .before .before .pre .0 .holds .lent in
+    let first = count .before .first-chroma .ensures .0 in
+    let sites = count .half-count .ensures .0 in
+    (sites-few lent first sites, other-room lent first sites (c .other-at .ensures), work-most _ _ _ _ lent)
 
 returns : tie.Need-returns
-returns c = (
-  record {
-    row = λ zs reads. others-stored (diagonal-row reads (c .before .before .before .before .before .before .before .before .before .before .before .before .before .before .before .before .before .before .before .before .before .before .before .before .before .before .before .before .before .before .before .first-chroma .ensures .0) (c .before .before .before .before .before .before .before .before .before .before .before .before .before .before .before .before .before .before .before .before .before .before .before .before .before .before .before .before .before .before .half-count .ensures .0) (c .before .before .before .before .before .before .before .before .before .before .before .before .before .before .before .before .before .before .before .before .before .before .before .before .before .before .before .north .ensures)
-        (c .before .before .before .before .before .before .before .before .before .before .before .before .before .before .before .before .before .before .before .before .before .before .before .before .before .reflected-less .ensures .0) (c .before .before .before .before .before .before .before .before .before .before .before .before .before .before .before .before .before .before .before .before .reflected .ensures .0) (row-one-off (c .before .before .before .before .before .before .before .before .before .before .before .before .before .before .before .before .before .before .before .before .before .before .before .before .final-at .ensures) (c .before .before .before .before .before .before .before .before .before .before .before .before .before .before .before .before .before .before .before .before .before .before .copy .ensures) (c .before .before .before .before .before .before .before .before .before .before .before .before .before .before .before .mirror .ensures))
-        (row-one-off (c .before .before .before .before .before .before .before .before .before .before .before .before .before .before .before .before .before .before .before .final-at2 .ensures) (c .before .before .before .before .before .before .before .before .before .before .before .before .before .before .before .before .before .copy2 .ensures) (c .before .before .before .before .before .before .before .before .before .before .before .before .before .mirror2 .ensures))) _ _ (c .before .before .before .before .before .before .before .before .before .before .before .record-at .ensures .0) (c .before .before .before .before .before .before .before .before .before .before .south-at .ensures)
-        _ (c .before .before .before .before .before .corner-means .ensures) (c .before .before .other-at .ensures) (c .before .store .ensures);
-  },
-  (c .before .before .before .before .before .before .before .before .before .before .before .before .before .before .before .before .before .before .before .before .before .before .before .before .before .before .before .north .ensures .size, c .before .before .before .before .before .before .before .before .before .before .before .before .before .before .before .mirror .ensures .size, c .before .before .before .before .before .before .before .before .before .before .before .before .before .mirror2 .ensures .size, c .before .before .before .before .before .corner-means .ensures .size),
-)
+returns c =
+    let means = c .before .before .before .before .before in
+    let records = means .before .before .before .before .before in
+    let mirror = mirrored means in
+    let down = lower mirror in
+    let up = upper down in
+    let count = counted up in (
+      record {
+        row = λ zs reads. others-stored
+            (diagonal-row reads (count .before .first-chroma .ensures .0) (count .half-count .ensures .0) (up .before .before .before .north .ensures)
+            (up .before .reflected-less .ensures .0) (down .before .reflected .ensures .0)
+            (row-one-off (up .final-at .ensures) (down .before .before .before .copy .ensures) (mirror .before .before .mirror .ensures))
+            (row-one-off (down .final-at2 .ensures) (mirror .before .before .before .before .copy2 .ensures) (mirror .mirror2 .ensures)))
+            _ _ (records .before .record-at .ensures .0) (records .south-at .ensures)
+            _ (means .corner-means .ensures) (c .before .before .other-at .ensures) (c .before .store .ensures);
+      },
+      (
+        up .before .before .before .north .ensures .size,
+        mirror .before .before .mirror .ensures .size,
+        mirror .mirror2 .ensures .size,
+        means .corner-means .ensures .size,
+      ),
+    )
 
 pub diagonal-line-spec : {M : Type 1} → statement M
 diagonal-line-spec = tie.close (tie.spec

@@ -1,3 +1,4 @@
+-- `differences::fuse_row` meets its contract. The loop has stored k final differences. Assumes nothing.
 use mathlib.Core.Path.{_≡_, refl, _∙_, ap₂}
 use Prim.Native.Nat.{ℕ, _+_, _-_, _≤_}
 use native.Mathlib.Nat.{le-trans}
@@ -16,7 +17,8 @@ use Rattle.differences.proofs.fuse_row.Tie as tie
 
 abbrev Inv-loop : tie.InvT-loop
 Inv-loop l m count work₀ at k₀ work k =
-    (k ≤ count) × (length work ≡ length work₀) × Wrote (pos 0) at k (λ (x : ℕ). fused (getD l (x + 4) (pos 0)) (getD m (x + 4) (pos 0))) work₀ work
+    (k ≤ count) × (length work ≡ length work₀)
+    × Wrote (pos 0) at k (λ (x : ℕ). fused (getD l (x + 4) (pos 0)) (getD m (x + 4) (pos 0))) work₀ work
 
 abbrev μ-loop : tie.MeasureT-loop
 μ-loop l m count work₀ at k₀ work k = count - k

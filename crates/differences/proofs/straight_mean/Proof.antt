@@ -1,3 +1,4 @@
+-- `differences::straight_mean` meets its contract. Assumes nothing.
 use mathlib.Core.Path.{_≡_, _∙_}
 use lib.Dec.{lit≤}
 use Rattle.toolkit.specs.Bounds.{fits, val}
@@ -11,11 +12,13 @@ use borrow.Author.Needs.{needs}
 use Rattle.differences.proofs.straight_mean.Statement.{statement}
 use Rattle.differences.proofs.straight_mean.Tie as tie
 
-values-are : (c : tie.After-values) → let a = c .before .before .before .before .before .args in c .values .result ≡ straight-read (a .l .now) (a .green .now) (a .below) (a .above) (a .k)
+values-are : (c : tie.After-values) →
+    let a = c .before .before .before .before .before .args in
+    c .values .result ≡ straight-read (a .l .now) (a .green .now) (a .below) (a .above) (a .k)
 values-are c =
     c .values .ensures
-    ∙ same-four (as-read (c .before .before .before .before .values-arg .given)) (as-read (c .before .before .before .values-arg2 .given)) (as-read (c .before .before .values-arg3 .given))
-    (as-read (c .before .values-arg4 .given))
+    ∙ same-four (as-read (c .before .before .before .before .values-arg .given)) (as-read (c .before .before .before .values-arg2 .given))
+    (as-read (c .before .before .values-arg3 .given)) (as-read (c .before .values-arg4 .given))
 
 lifted-mean-requires : tie.Need-lifted-mean-requires
 lifted-mean-requires c κs =

@@ -1,3 +1,4 @@
+-- `differences::straight_means` meets its contract. The loop has formed the means of k sites. Assumes nothing.
 use mathlib.Core.Path.{_≡_, refl, _∙_, ap}
 use Prim.Native.Nat.{ℕ, _+_, _-_, _≤_}
 use native.Mathlib.Omega.{arith}
@@ -21,7 +22,9 @@ loop-holds : tie.Need-loop-holds Inv-loop μ-loop
 loop-holds c = (omega arith, entries-none (c .pre .0 .3))
 
 straight-mean-requires : tie.Need-straight-mean-requires Inv-loop μ-loop
-straight-mean-requires c κs = ((c .loop-test .taken, c .before .before .pre .0 .0, c .before .before .pre .0 .1, c .before .before .pre .0 .2), (c .before .before .pre .1 .0, c .before .before .pre .1 .1))
+straight-mean-requires c κs =
+    let p = c .before .before .pre in
+    ((c .loop-test .taken, p .0 .0, p .0 .1, p .0 .2), (p .1 .0, p .1 .1))
 
 loop-again : tie.Need-loop-again Inv-loop μ-loop
 loop-again c =
@@ -32,7 +35,7 @@ loop-again c =
       omega arith,
       entries-next (at-loop .loop .inv .1) (omega (arith, c .before .before .before .pre .1 .0 .few)) (omega arith)
           (toZ-ofZ {w = w32} (record { sfits = c .straight-mean .ok }) ∙ (c .straight-mean .ensures
-          ∙ ap (λ (x : ℕ). straight-mean-read (a .work .now) (a .east) (a .south) (a .n .now) (a .l .now) (a .green .now) (a .below) (a .above) x) e)),
+          ∙ ap (straight-mean-read (a .work .now) (a .east) (a .south) (a .n .now) (a .l .now) (a .green .now) (a .below) (a .above)) e)),
     )
 
 returns : tie.Need-returns Inv-loop μ-loop

@@ -1,3 +1,4 @@
+-- `east_rows::along` meets its contract. Two sums of six samples in line. Assumes nothing.
 use mathlib.Core.Path.{ap₂}
 use Prim.Native.Nat.{ℕ, _+_}
 use Rattle.east_rows.specs.RowSums.{along-at}

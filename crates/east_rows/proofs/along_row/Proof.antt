@@ -1,3 +1,4 @@
+-- `east_rows::along_row` meets its contract. The loop has stored a of k columns. Assumes nothing.
 use Prim.Native.Nat.{ℕ, _+_, _-_, _≤_}
 use Rattle.toolkit.specs.Writes.{Wrote, wrote-none, wrote-next, wrote-as}
 use Rattle.east_rows.specs.RowSums.{along-at}

@@ -1,3 +1,4 @@
+-- `east_rows::bend` meets its contract. The sum of what counts once and that of what counts twice (`taps-naturals`). Assumes nothing.
 use mathlib.Core.Path.{_∙_}
 use Rattle.east_rows.specs.SumLaws.{taps-naturals}
 use native.Mathlib.Omega.{arith}

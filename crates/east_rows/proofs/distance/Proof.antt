@@ -1,3 +1,4 @@
+-- `east_rows::distance` meets its contract. Assumes nothing.
 use Rattle.east_rows.specs.SumLaws.{apart-naturals}
 use native.Mathlib.Omega.{arith}
 use borrow.Author.Needs.{needs}

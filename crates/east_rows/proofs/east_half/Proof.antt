@@ -1,3 +1,4 @@
+-- `east_rows::east_half` meets its contract. The loop has stored E of k columns. Assumes nothing.
 use mathlib.Core.Path.{refl, _∙_, ap}
 use Prim.Native.Nat.{ℕ, _+_, _*_, _-_, _≤_}
 use lib.IntN.{pos}

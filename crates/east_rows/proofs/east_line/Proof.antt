@@ -1,5 +1,5 @@
+-- `east_rows::east_line` meets its contract. a of three rows, then both halves as one store (`east-stored`). Assumes nothing.
 use mathlib.Core.Path.{_≡_, _∙_}
-use Prim.Native.Nat.{_-_, _≤_}
 use lib.Dec.{lit≤, lit<}
 use lib.ListN.{length}
 use Rattle.frame.specs.Sites.{Frame, frame}

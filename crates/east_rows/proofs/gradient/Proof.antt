@@ -1,3 +1,4 @@
+-- `east_rows::gradient` meets its contract. Assumes nothing.
 use mathlib.Core.Path.{_∙_, ap}
 use Prim.Native.Nat.{ℕ, _+_, _*_}
 use lib.IntN.{pos}

@@ -7,9 +7,9 @@ use mir.Syntax.{w32}
 use mir.Val.{toZ, ofZ}
 use native.Mathlib.Omega.{arith}
 use Rattle.toolkit.specs.Writes.{Wrote, wrote-none, wrote-next, wrote-as}
-use Rattle.half_rows.specs.Reading.{as-read}
+use Rattle.half_rows.specs.Reading.{as-read, size-read}
 use Rattle.method.specs.Green.{vertical, diagonal}
-use Rattle.first_pass.specs.Outcomes.{read-small, sum-fits, half-read}
+use Rattle.first_pass.specs.Outcomes.{sum-fits, half-read}
 use Rattle.first_pass.specs.Trials.{site-trial, trial-step}
 use borrow.Author.Needs.{needs}
 use Rattle.first_pass.proofs.trial_row.Statement.{statement}
@@ -71,7 +71,7 @@ module _ (c : tie.After-y Inv-loop μ-loop) where
       in-loop .before .before .pre .0 .down-small (in-loop .before .loop .k) (in-loop .loop-test .taken)
 
   both-small : (natAbs (toZ w32 (ofZ w32 a)) ≤ 8184) × (natAbs (toZ w32 (ofZ w32 b)) ≤ 8184)
-  both-small = (read-small a (c .before .x .given) a-small, read-small b (c .y .given) b-small)
+  both-small = (size-read a (as-read (c .before .x .given)) a-small, size-read b (as-read (c .y .given)) b-small)
 
 add-settle : tie.Need-add-settle Inv-loop μ-loop
 add-settle c = sum-fits (a c) (b c) (a-small c) (b-small c)

@@ -5,7 +5,8 @@ use Rattle.frame.specs.Sites.{frame}
 use Rattle.method.specs.Green.{vertical, diagonal}
 use Rattle.positions.specs.HalfRowLaws.{count-high}
 use Rattle.half_rows.specs.SiteGradients.{north-room}
-use Rattle.first_stage.specs.TrialRows.{start-low, plane-room, lines-small, trial-reads, trials-stored}
+use Rattle.positions.specs.Places.{plane-row}
+use Rattle.first_stage.specs.TrialRows.{start-low, lines-small, trial-reads, trials-stored}
 use borrow.Author.Needs.{needs}
 use Rattle.first_stage.proofs.trial_line.Statement.{statement}
 use Rattle.first_stage.proofs.trial_line.Tie as tie
@@ -53,11 +54,11 @@ trial-row-requires c κs =
     let count = after-count .half-count .ensures .0 in
     let lines = after-lines .line-row .ensures in
     let planes = start .pre .1 .1 in
-    let room = plane-room (frame (args .shape) (start .pre .0 .samples)) (args .i) (args .c) _ (args .diagonals .now) (r .lent .taken)
-    (r .lent .inside) count (planes .0) in (
+    let room = plane-row (frame (args .shape) (start .pre .0 .samples)) (args .i) (after-count .half-count .result) (r .lent .taken) (r .lent .inside)
+    (omega (arith, count, count-high (args .shape .width) (args .c))) in (
       trial-reads (frame (args .shape) (start .pre .0 .samples)) (args .i) (args .c) _ _ _ _ _ _ _ _ _ r count
           (after-east .record-at .ensures .0) (after-south .south-at .ensures) (after-north .north .ensures) (lines .0) (lines .1),
-      (room .0, room .1, planes .1 ∙ sym (planes .0)),
+      (omega (arith, room, planes .0), omega (arith, room, planes .0), planes .1 ∙ sym (planes .0)),
     )
 
 same-length : tie.Need-same-length

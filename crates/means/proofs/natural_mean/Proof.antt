@@ -4,7 +4,8 @@ use native.Mathlib.Omega.{arith}
 use borrow.Author.Needs.{needs}
 use Rattle.method.specs.Sizes.{weaker}
 use Rattle.means.specs.Naturals.{numbers}
-use Rattle.means.specs.Products.{numerator, products-mean, some-zero, across-below, down-below, values-across-below, values-down-below, quotient-below, same-sum, above-zero, same-round}
+use Rattle.means.specs.Products.{numerator, products-mean, some-zero, same-sum, above-zero, same-round}
+use Rattle.means.specs.Products.{across-below, down-below, values-across-below, values-down-below, quotient-below}
 use Rattle.means.proofs.natural_mean.Statement.{statement}
 use Rattle.means.proofs.natural_mean.Tie as tie
 

@@ -1,3 +1,4 @@
+-- `mosaic_rows::edges` meets its contract. The loop has filled k − 1 reflected columns on each side (`reflected-turn`). Assumes nothing.
 use Prim.Native.Nat.{_+_, _-_, _≤_}
 use Rattle.mosaic_rows.specs.EdgeLaws.{Reflected, reflected-none, reflected-turn, reflected-all}
 use borrow.Author.Needs.{needs}

@@ -1,3 +1,4 @@
+-- `mosaic_rows::load` meets its contract. The columns, then the reflected ones (`row-stored`). Assumes nothing.
 use Rattle.frame.specs.Sites.{frame}
 use Rattle.mosaic_rows.specs.LoadLaws.{row-inside, row-stored}
 use native.Mathlib.Omega.{arith}

@@ -1,3 +1,4 @@
+-- `mosaic_rows::load_rows` meets its contract. The loop has loaded the rows at the places below p (`places-next`). Assumes nothing.
 use mathlib.Core.Path.{_≡_, refl}
 use Prim.Native.Nat.{_-_, _≤_}
 use Rattle.frame.specs.Sites.{frame}

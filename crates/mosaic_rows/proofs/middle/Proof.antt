@@ -1,3 +1,4 @@
+-- `mosaic_rows::middle` meets its contract. The loop has stored j columns from entry to + 8 on. Assumes nothing.
 use mathlib.Core.Path.{refl}
 use Prim.Native.Nat.{ℕ, _+_, _-_, _≤_}
 use lib.ListN.{getD}

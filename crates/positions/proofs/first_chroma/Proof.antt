@@ -1,3 +1,4 @@
+-- `positions::first_chroma` meets its contract. Assumes nothing.
 use mathlib.Core.Path.{refl}
 use Rattle.positions.specs.HalfRows.{chroma-start}
 use native.Mathlib.Omega.{arith}

@@ -1,3 +1,4 @@
+-- `positions::half_count` meets its contract. Assumes nothing.
 use mathlib.Core.Path.{refl}
 use Rattle.positions.specs.HalfRows.{half-count}
 use native.Mathlib.Omega.{arith}

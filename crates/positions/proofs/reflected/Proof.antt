@@ -1,3 +1,4 @@
+-- `positions::reflected` meets its contract. One period, then forth or back (`fold-low`, `fold-high`). Assumes nothing.
 use mathlib.Core.Path.{sym}
 use Prim.Native.Nat.{_*_, _-_}
 use native.Mathlib.Nat.{mod-lt}
@@ -27,7 +28,9 @@ sub-result : tie.Need-sub-result
 sub-result c = omega (arith, mod-lt (c .before .before .args .x) {m = 2 * (c .before .before .args .n - 1)} (omega arith))
 
 returns-3 : tie.Need-returns-3
-returns-3 c = (fold-high _ _ (c .before .before .pre .0) (c .if2 .left), omega (arith, mod-lt (c .before .before .args .x) {m = 2 * (c .before .before .args .n - 1)} (omega arith)))
+returns-3 c =
+    let a = c .before .before .args in
+    (fold-high _ _ (c .before .before .pre .0) (c .if2 .left), omega (arith, mod-lt (a .x) {m = 2 * (a .n - 1)} (omega arith)))
 
 pub reflected-spec : {M : Type 1} → statement M
 reflected-spec =

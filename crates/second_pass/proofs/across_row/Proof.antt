@@ -1,3 +1,4 @@
+-- `second_pass::across_row` meets its contract. The loop has formed the entries below k + 4. Assumes nothing.
 use mathlib.Core.Path.{refl}
 use Prim.Native.Nat.{_+_, _-_, _≤_}
 use lib.IntN.{pos, natAbs}

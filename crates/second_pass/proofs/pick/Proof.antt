@@ -1,3 +1,4 @@
+-- `second_pass::pick` meets its contract. Each way out is one case of `picked`. Assumes nothing.
 use mathlib.Core.Path.{_≡_, _∙_}
 use mathlib.Core.Bool.{false, _&&_}
 use mathlib.Core.Logic.{⊎-elim}

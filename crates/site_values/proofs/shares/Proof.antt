@@ -3,7 +3,7 @@ use mathlib.Core.Path.{_≡_, _∙_}
 use native.Mathlib.Omega.{arith}
 use lib.IntN.{pos, _+ℤ_}
 use borrow.Author.Needs.{needs}
-use Rattle.toolkit.specs.Bounds.{fits, val}
+use Rattle.toolkit.specs.Bounds.{val}
 use Rattle.toolkit.specs.BoundRules.{small, vals}
 use Rattle.site_values.specs.Roundings.{shares-are}
 use Rattle.site_values.proofs.shares.Statement.{statement}

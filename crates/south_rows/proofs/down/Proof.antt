@@ -1,3 +1,4 @@
+-- `south_rows::down` meets its contract. Two sums of six samples down a column. Assumes nothing.
 use Rattle.south_rows.specs.SevenRowLaws.{column-small, pair-is}
 use borrow.Author.Needs.{needs}
 use Rattle.south_rows.proofs.down.Statement.{statement}

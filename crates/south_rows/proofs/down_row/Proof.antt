@@ -1,3 +1,4 @@
+-- `south_rows::down_row` meets its contract. The loop has formed the pairs of the entries 7 to k − 1. Assumes nothing.
 use mathlib.Core.Path.{refl}
 use Prim.Native.Nat.{_+_, _-_, _≤_}
 use native.Mathlib.Omega.{arith}

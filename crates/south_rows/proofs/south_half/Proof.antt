@@ -1,3 +1,4 @@
+-- `south_rows::south_half` meets its contract. The loop has stored N of k columns. Assumes nothing.
 use mathlib.Core.Path.{refl, _∙_, ap}
 use Prim.Native.Nat.{ℕ, _+_, _*_, _-_, _≤_}
 use native.Mathlib.Omega.{arith}

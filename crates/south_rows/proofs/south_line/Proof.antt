@@ -1,3 +1,4 @@
+-- `south_rows::south_line` meets its contract. Both halves are one row in halves (`halves-stored`). Assumes nothing.
 use mathlib.Core.Path.{_∙_}
 use native.Mathlib.Omega.{arith}
 use borrow.Author.Needs.{needs}

@@ -1,3 +1,4 @@
+-- `sums::add_columns` meets its contract. The loop has added the distances of the entries below k + 4; the others are as they were. Assumes nothing.
 use mathlib.Core.Path.{refl, _∙_}
 use Prim.Native.Nat.{ℕ, _+_, _-_, _<_, _≤_}
 use lib.IntN.{pos}
@@ -5,9 +6,9 @@ use lib.ListN.{getD}
 use mir.Syntax.{w32}
 use mir.Facts.{toZ-ofZ}
 use Rattle.toolkit.specs.Entries.{Entries, entries-none, entries-next, entries-past, entries-as}
-use Rattle.half_rows.specs.Reading.{as-read}
+use Rattle.half_rows.specs.Reading.{as-read, size-read}
 use Rattle.sums.specs.Sums.{with-columns}
-use Rattle.sums.specs.Gaps.{gaps-read, size-read}
+use Rattle.sums.specs.Gaps.{gaps-read}
 use borrow.Author.Needs.{needs}
 use native.Mathlib.Omega.{arith}
 use Rattle.sums.proofs.add_columns.Statement.{statement}

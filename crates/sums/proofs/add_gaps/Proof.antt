@@ -1,3 +1,4 @@
+-- `sums::add_gaps` meets its contract. Assumes nothing.
 use mathlib.Core.Path.{refl, _∙_}
 use mir.Facts.{toZ-ofZ}
 use Rattle.toolkit.specs.Bounds.{fits, val}

@@ -1,3 +1,4 @@
+-- `sums::add_ring` meets its contract. One step of the three sums (`widens`). Assumes nothing.
 use mathlib.Core.Path.{_≡_, refl}
 use Prim.Native.Nat.{_*_}
 use native.Mathlib.Omega.{arith}

@@ -1,3 +1,4 @@
+-- `sums::add_rings` meets its contract. The loop has made the steps below t (`widens-then`). Assumes nothing.
 use Prim.Native.Nat.{_+_, _*_, _-_, _≤_}
 use Rattle.sums.specs.Sums.{Widens, Sums-room}
 use Rattle.sums.specs.Room.{room-as}

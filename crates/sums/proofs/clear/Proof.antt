@@ -1,3 +1,4 @@
+-- `sums::clear` meets its contract. The loop has cleared the entries below k + 4. Assumes nothing.
 use mathlib.Core.Path.{refl}
 use Prim.Native.Nat.{ℕ, _+_, _-_, _≤_}
 use lib.IntN.{pos}

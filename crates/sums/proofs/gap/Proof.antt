@@ -1,3 +1,4 @@
+-- `sums::gap` meets its contract. Assumes nothing.
 use mathlib.Core.Path.{_∙_}
 use Rattle.toolkit.specs.Bounds.{fits, val}
 use Rattle.toolkit.specs.BoundRules.{vals, small, told}

@@ -1,3 +1,4 @@
+-- `sums::sum_row` meets its contract. No sums, then all steps. Assumes nothing.
 use Prim.Native.Nat.{_≤_}
 use Rattle.sums.specs.Widening.{count-is, sums-none}
 use Rattle.sums.specs.Room.{count-room, room-none}
