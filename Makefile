@@ -12,8 +12,7 @@ run:
 test:
 	@tests/run
 
-bench:
-	@rt staticlib bayer
+bench: lib
 	@CARGO_TARGET_DIR=build/bench cargo run --quiet --release --manifest-path bench/Cargo.toml --bin speed
 
 lib:

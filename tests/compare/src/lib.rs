@@ -1,8 +1,10 @@
-//! The proved library's calls as safe functions. Each export refuses what it does not admit, so every input may be given.
+//! The proved library's calls, by its binding for Rust, with the independent implementation's types. Each call refuses what it does not
+//! admit, so every input may be given.
 
 pub mod guarded;
 pub mod stack;
 
+use bayer::Shape;
 use reference::calls::Refusal;
 use reference::frame_file::Description;
 
@@ -21,97 +23,20 @@ pub const SIDES_NEAR_MULTIPLES_OF_400: [(usize, usize); 11] = [
     (2, 4096),
 ];
 
-#[repr(C)]
-#[derive(Clone, Copy)]
-struct Shape {
-    width: usize,
-    height: usize,
-    phase: usize,
-}
-
-#[repr(C)]
-struct Returned {
-    number: usize,
-    place: usize,
-}
-
-#[repr(C)]
-struct ReadReturned {
-    number: usize,
-    place: usize,
-    width: usize,
-    height: usize,
-    phase: usize,
-}
-
-extern "C" {
-    fn bayer_read(
-        file: *const u8,
-        file_length: usize,
-        samples: *mut u16,
-        samples_length: usize,
-    ) -> ReadReturned;
-
-    fn bayer_write(
-        shape: Shape,
-        mosaic: *const u16,
-        mosaic_length: usize,
-        file: *mut u8,
-        file_length: usize,
-    ) -> Returned;
-
-    fn bayer_develop(
-        shape: Shape,
-        mosaic: *const u16,
-        mosaic_length: usize,
-        red: *mut i32,
-        red_length: usize,
-        green: *mut i32,
-        green_length: usize,
-        blue: *mut i32,
-        blue_length: usize,
-        work: *mut i32,
-        work_length: usize,
-    ) -> Returned;
-
-    fn bayer_clamp(
-        plane: *const i32,
-        plane_length: usize,
-        clamped: *mut i32,
-        clamped_length: usize,
-    ) -> Returned;
-}
-
-/// Success, or the refusal of that number and place.
-fn answer<T>(number: usize, place: usize, value: T) -> Result<T, Refusal> {
-    match number {
-        0 => {
-            assert_eq!(place, 0, "success has place 0");
-            Ok(value)
-        }
-        _ => Err(Refusal {
-            number: number as u32,
-            place,
-        }),
-    }
+/// The binding's answer as the independent implementation tells it.
+fn told<T>(answer: Result<T, bayer::Refusal>) -> Result<T, Refusal> {
+    answer.map_err(|refusal| Refusal {
+        number: refusal.number as u32,
+        place: refusal.place,
+    })
 }
 
 pub fn read(file: &[u8], samples: &mut [u16]) -> Result<Description, Refusal> {
-    // Both slices are lent with their own lengths.
-    let returned = unsafe {
-        bayer_read(
-            file.as_ptr(),
-            file.len(),
-            samples.as_mut_ptr(),
-            samples.len(),
-        )
-    };
-    let description = Description {
-        width: returned.width,
-        height: returned.height,
-        phase: returned.phase,
-    };
-    answer(returned.number, returned.place, description)
+    told(bayer::read(file, samples)).map(|shape| Description {
+        width: shape.width,
+        height: shape.height,
+        phase: shape.phase,
+    })
 }
 
 pub fn write(
@@ -126,17 +51,7 @@ pub fn write(
         height,
         phase,
     };
-    // Both slices are lent with their own lengths.
-    let returned = unsafe {
-        bayer_write(
-            shape,
-            mosaic.as_ptr(),
-            mosaic.len(),
-            file.as_mut_ptr(),
-            file.len(),
-        )
-    };
-    answer(returned.number, returned.place, ())
+    told(bayer::write(shape, mosaic, file))
 }
 
 #[allow(clippy::too_many_arguments)] // the document lends all of these
@@ -155,34 +70,9 @@ pub fn develop(
         height,
         phase,
     };
-    // Each slice is lent with its own length.
-    let returned = unsafe {
-        bayer_develop(
-            shape,
-            mosaic.as_ptr(),
-            mosaic.len(),
-            red.as_mut_ptr(),
-            red.len(),
-            green.as_mut_ptr(),
-            green.len(),
-            blue.as_mut_ptr(),
-            blue.len(),
-            work.as_mut_ptr(),
-            work.len(),
-        )
-    };
-    answer(returned.number, returned.place, ())
+    told(bayer::develop(shape, mosaic, red, green, blue, work))
 }
 
 pub fn clamp(plane: &[i32], clamped: &mut [i32]) -> Result<(), Refusal> {
-    // Both slices are lent with their own lengths.
-    let returned = unsafe {
-        bayer_clamp(
-            plane.as_ptr(),
-            plane.len(),
-            clamped.as_mut_ptr(),
-            clamped.len(),
-        )
-    };
-    answer(returned.number, returned.place, ())
+    told(bayer::clamp(plane, clamped))
 }
