@@ -3,14 +3,13 @@ use mathlib.Core.Bool.{cond}
 use mathlib.Core.List.{List, [], _∷_, _++_}
 use Prim.Native.Nat.{ℕ, zero, suc, _+_, _*_, _/_, _%_}
 use lib.Dec.{ltb}
-use lib.IntN.{natAbs}
-use lib.ListN.{length}
+use lib.IntN.{pos, natAbs}
+use lib.ListN.{length, getD}
 use Rattle.frame.specs.declared.Refusal.{Refusal}
 use Rattle.frame.specs.declared.Refusal.the-variants.{BufferLength}
 use Rattle.frame.specs.Sites.{Frame, Colour, red, green, blue}
-use Rattle.frame.specs.Calls.{number-and-place, held}
-use Rattle.method.specs.Gradients.{mosaic}
-use Rattle.method.specs.Planes.{output}
+use Rattle.frame.specs.Calls.{number-and-place, clamped}
+use Rattle.method.specs.Planes.{plane}
 use Rattle.frame_file.specs.Lists.{joined}
 use Rattle.frame_file.specs.FrameFile as File
 
@@ -52,8 +51,9 @@ refused-word = 114 ∷ 101 ∷ 102 ∷ 117 ∷ 115 ∷ 101 ∷ 100 ∷ []
 unfoldable pub refusal-text : Refusal → List ℕ
 refusal-text why = refused-word ++ (space ∷ numbers-line (number-and-place why .number ∷ number-and-place why .place ∷ []))
 
+-- entry i·W + j of the plane of the colour c that develop leaves, as clamp leaves it
 unfoldable pub clamped-at : Frame → Colour → ℕ → ℕ → ℕ
-clamped-at f c i j = natAbs (held (output (mosaic f) c i j))
+clamped-at f c i j = natAbs (getD (clamped (plane f c)) (i * f .width + j) (pos 0))
 
 -- "it prints row, column and colours": the line of the site (i,j), its colours clamped
 unfoldable pub site-text : Frame → ℕ → ℕ → List ℕ
