@@ -7,8 +7,10 @@ use lib.IntN.{pos, natAbs}
 use lib.ListN.{length, getD}
 use Rattle.frame.specs.declared.Refusal.{Refusal}
 use Rattle.frame.specs.declared.Refusal.the-variants.{BufferLength}
+use Rattle.frame.specs.declared.Answer.{Answer}
+use Rattle.frame.specs.declared.Answer.the-variants.{Done, Refused}
 use Rattle.frame.specs.Sites.{Frame, Colour, red, green, blue}
-use Rattle.frame.specs.Calls.{number-and-place, clamped}
+use Rattle.frame.specs.Calls.{Lengths, number-and-place, clamped, develop-answer}
 use Rattle.method.specs.Planes.{plane}
 use Rattle.frame_file.specs.Lists.{joined}
 use Rattle.frame_file.specs.FrameFile as File
@@ -62,8 +64,18 @@ site-text f i j = numbers-line (i ∷ j ∷ clamped-at f red i j ∷ clamped-at 
 unfoldable pub frame-text : Frame → List ℕ
 frame-text f = heading ++ joined (f .height * f .width) (λ k. site-text f (k / f .width) (k % f .width))
 
+-- the lengths of the planes and of the work buffer that the program lends to develop
+abbrev pub lent : Frame → Lengths
+lent f = record { red = f .height * f .width; green = f .height * f .width; blue = f .height * f .width; work = 4 * (f .height * f .width) }
+
+-- what is printed by develop's answer
+abbrev pub developed-text : Frame → Answer → List ℕ
+developed-text f Done = frame-text f
+developed-text f (Refused why) = refusal-text why
+
+-- what is printed by what read finds
 abbrev pub text-of : File.Reading → List ℕ
-text-of (File.accepted f) = frame-text f
+text-of (File.accepted f) = developed-text f (develop-answer f (lent f))
 text-of (File.refused why) = refusal-text why
 
 -- "The program reads one file from standard input into 2,048 bytes (a longer one prints `refused 4 0` before any other test) and 1,024
