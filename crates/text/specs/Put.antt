@@ -51,3 +51,8 @@ put-length {old} {new} {piece} {at} h p = ap length (p .placed) ∙ length-put-a
 pub put-front : {old new piece : List ℕ} {next : ℕ} → Put old 0 piece new next → take next new ≡ piece
 unfolding put-at
 put-front {old} {new} {piece} {next} p = rw (p .placed) (take-at piece _ next (omega (arith, p .behind)))
+
+pub front-inside : {old new piece : List ℕ} {next : ℕ} → Put old 0 piece new next → next ≤ length new
+unfolding put-at
+front-inside {old} {new} {piece} {next} p =
+    omega (arith, p .behind, ap length (p .placed), length-append piece (drop (0 + length piece) old))
