@@ -79,7 +79,9 @@ pub fn refusal(text: &mut [u8], why: Refusal) -> usize
     requires { ⌜ 64 ≤ length (now text) ⌝ }
     ensures { λ r. ⌜ Put (now (text .entry)) 0 (refusal-text why) (now (text .exit)) r ⌝ }
 {
+    let number = frame::number_of(why);
+    let place = frame::place_of(why);
     let after_word = bytes(text, 0, b"refused ");
-    let after_number = number_then(text, after_word, frame::number_of(why), b' ');
-    number_then(text, after_number, frame::place_of(why), b'\n')
+    let after_number = number_then(text, after_word, number, b' ');
+    number_then(text, after_number, place, b'\n')
 }

@@ -16,29 +16,36 @@ number-of-requires c κs = search needs
 
 number-then-requires : tie.Need-number-then-requires
 number-then-requires c κs =
-    let word = c .before .before .before .before in
-    let start = word .before .before .before .before in
-    omega (arith, start .pre, word .bytes .ensures .behind, word .bytes .kept .0, digits-64 (c .number-of .result) (omega arith))
+    let word = c .before .before .before in
+    let called = word .before .before .before .before in
+    omega (
+      arith,
+      called .before .before .pre,
+      word .bytes .ensures .behind,
+      word .bytes .kept .0,
+      digits-64 (called .number-of .result) (omega arith),
+    )
 
 place-of-requires : tie.Need-place-of-requires
 place-of-requires c κs = search needs
 
 number-then-requires-2 : tie.Need-number-then-requires-2
 number-then-requires-2 c κs =
-    let number = c .before .before .before .before in
-    let word = number .before .before .before .before .before in
-    let start = word .before .before .before .before in
-    let of = number .before .number-of .result in
+    let number = c .before .before .before in
+    let word = number .before .before .before .before in
+    let placed = word .before .before .before in
+    let called = placed .before in
+    let of = called .number-of .result in
     omega (
       arith,
-      start .pre,
+      called .before .before .pre,
       word .bytes .ensures .behind,
       word .bytes .kept .0,
       number .number-then .ensures .behind,
       number .number-then .kept .0,
       length-ended of 32,
       digits-64 of (omega arith),
-      digits-64 (c .place-of .result) (omega arith),
+      digits-64 (placed .place-of .result) (omega arith),
     )
 
 same-length : tie.Need-same-length
@@ -47,23 +54,24 @@ same-length c = search needs
 returns : tie.Need-returns
 returns c =
     let place = c .before .before in
-    let number = place .before .before .before .before .before in
-    let word = number .before .before .before .before .before in
-    let start = word .before .before .before .before in
-    let of = number .before .number-of .result in
-    refusal-put (start .args .why) of (place .before .place-of .result) (number .before .number-of .ensures) (place .before .place-of .ensures)
-    (omega (arith, start .pre, digits-64 of (omega arith)))
+    let number = place .before .before .before .before in
+    let word = number .before .before .before .before in
+    let placed = word .before .before .before in
+    let called = placed .before in
+    let start = called .before .before in
+    refusal-put (start .args .why) (called .number-of .result) (placed .place-of .result) (called .number-of .ensures)
+    (placed .place-of .ensures) (omega (arith, start .pre, digits-64 (called .number-of .result) (omega arith)))
     (word .bytes .ensures) (number .number-then .ensures) (place .number-then2 .ensures)
 
 pub refusal-spec : {M : Type 1} → statement M
 refusal-spec =
     tie.close
     (tie.spec
+    number-of-requires
+    place-of-requires
     slice-aggregate-bytes
     bytes-requires
-    number-of-requires
     number-then-requires
-    place-of-requires
     number-then-requires-2
     same-length
     returns)
