@@ -1,4 +1,5 @@
-# make run      develops the document's example frame and prints it
+# make run      develops the document's example frame by the proved program and prints it; make run FRAME=path, any frame file
+#               (the first time the program's crates are proved, which takes minutes)
 # make test     proves every crate and passes the tests; its last line is 'N passed, M failed'
 # make bench    times the proved library beside the plain version, in bench/
 # make lib      proves the library and writes build/lib/libbayer.a and libbayer.so
@@ -6,8 +7,12 @@
 PREFIX ?= /usr/local
 .PHONY: run test bench lib install
 
+FRAME ?= examples/glaze.bayr
+
 run:
-	@CARGO_TARGET_DIR=build/reference cargo run --quiet --release --manifest-path tests/reference/Cargo.toml --bin develop < examples/glaze.bayr
+	@mkdir -p build
+	@rt check print_frame > build/run.log 2>&1 || { cat build/run.log >&2; exit 1; }
+	@target/bin/print_frame < $(FRAME)
 
 test:
 	@tests/run

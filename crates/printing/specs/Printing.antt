@@ -3,14 +3,15 @@ use mathlib.Core.Bool.{cond}
 use mathlib.Core.List.{List, [], _∷_, _++_}
 use Prim.Native.Nat.{ℕ, zero, suc, _+_, _*_, _/_, _%_}
 use lib.Dec.{ltb}
-use lib.IntN.{natAbs}
-use lib.ListN.{length}
+use lib.IntN.{pos, natAbs}
+use lib.ListN.{length, getD}
 use Rattle.frame.specs.declared.Refusal.{Refusal}
 use Rattle.frame.specs.declared.Refusal.the-variants.{BufferLength}
+use Rattle.frame.specs.declared.Answer.{Answer}
+use Rattle.frame.specs.declared.Answer.the-variants.{Done, Refused}
 use Rattle.frame.specs.Sites.{Frame, Colour, red, green, blue}
-use Rattle.frame.specs.Calls.{number-and-place, held}
-use Rattle.method.specs.Gradients.{mosaic}
-use Rattle.method.specs.Planes.{output}
+use Rattle.frame.specs.Calls.{Lengths, number-and-place, clamped, develop-answer}
+use Rattle.method.specs.Planes.{plane}
 use Rattle.frame_file.specs.Lists.{joined}
 use Rattle.frame_file.specs.FrameFile as File
 
@@ -52,8 +53,9 @@ refused-word = 114 ∷ 101 ∷ 102 ∷ 117 ∷ 115 ∷ 101 ∷ 100 ∷ []
 unfoldable pub refusal-text : Refusal → List ℕ
 refusal-text why = refused-word ++ (space ∷ numbers-line (number-and-place why .number ∷ number-and-place why .place ∷ []))
 
+-- entry i·W + j of the plane of the colour c that develop leaves, as clamp leaves it
 unfoldable pub clamped-at : Frame → Colour → ℕ → ℕ → ℕ
-clamped-at f c i j = natAbs (held (output (mosaic f) c i j))
+clamped-at f c i j = natAbs (getD (clamped (plane f c)) (i * f .width + j) (pos 0))
 
 -- "it prints row, column and colours": the line of the site (i,j), its colours clamped
 unfoldable pub site-text : Frame → ℕ → ℕ → List ℕ
@@ -62,8 +64,18 @@ site-text f i j = numbers-line (i ∷ j ∷ clamped-at f red i j ∷ clamped-at 
 unfoldable pub frame-text : Frame → List ℕ
 frame-text f = heading ++ joined (f .height * f .width) (λ k. site-text f (k / f .width) (k % f .width))
 
+-- the lengths of the planes and of the work buffer that the program lends to develop
+abbrev pub lent : Frame → Lengths
+lent f = record { red = f .height * f .width; green = f .height * f .width; blue = f .height * f .width; work = 4 * (f .height * f .width) }
+
+-- what is printed by develop's answer
+abbrev pub developed-text : Frame → Answer → List ℕ
+developed-text f Done = frame-text f
+developed-text f (Refused why) = refusal-text why
+
+-- what is printed by what read finds
 abbrev pub text-of : File.Reading → List ℕ
-text-of (File.accepted f) = frame-text f
+text-of (File.accepted f) = developed-text f (develop-answer f (lent f))
 text-of (File.refused why) = refusal-text why
 
 -- "The program reads one file from standard input into 2,048 bytes (a longer one prints `refused 4 0` before any other test) and 1,024

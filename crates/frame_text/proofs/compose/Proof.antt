@@ -1,0 +1,67 @@
+-- `frame_text::compose` meets its contract. Assumes nothing.
+use Rattle.text.specs.Put.{put-as, front-inside}
+use Rattle.frame_text.specs.Reads.{long-printed, short-printed}
+use borrow.Author.Needs.{needs}
+use Rattle.frame_text.proofs.compose.Statement.{statement}
+use Rattle.frame_text.proofs.compose.Tie as tie
+
+refusal-requires : tie.Need-refusal-requires
+refusal-requires c κs = search needs
+
+same-length : tie.Need-same-length
+same-length c = search needs
+
+returns : tie.Need-returns
+returns c = let put = c .before .before .refusal .ensures in (put-as (long-printed _ (c .before .before .before .before .if1 .taken)) put, front-inside put)
+
+slice-aggregate-read-file : tie.Need-slice-aggregate-read-file
+slice-aggregate-read-file c = search needs
+
+slice-aggregate-read-file-2 : tie.Need-slice-aggregate-read-file-2
+slice-aggregate-read-file-2 c = search needs
+
+slice-aggregate-read-file-3 : tie.Need-slice-aggregate-read-file-3
+slice-aggregate-read-file-3 c = search needs
+
+slice-aggregate-read-file-4 : tie.Need-slice-aggregate-read-file-4
+slice-aggregate-read-file-4 c = search needs
+
+slice-aggregate-read-file-5 : tie.Need-slice-aggregate-read-file-5
+slice-aggregate-read-file-5 c = search needs
+
+slice-aggregate-read-file-6 : tie.Need-slice-aggregate-read-file-6
+slice-aggregate-read-file-6 c = search needs
+
+slice-aggregate-read-file-7 : tie.Need-slice-aggregate-read-file-7
+slice-aggregate-read-file-7 c = search needs
+
+slice-aggregate-read-file-8 : tie.Need-slice-aggregate-read-file-8
+slice-aggregate-read-file-8 c = search needs
+
+read-file-requires : tie.Need-read-file-requires
+read-file-requires c κs = search needs
+
+same-length-2 : tie.Need-same-length-2
+same-length-2 c = search needs
+
+returns-2 : tie.Need-returns-2
+returns-2 c = let put = c .before .before .before .before .before .before .before .before .before .before .read-file .ensures in (put-as (short-printed _ (c .before .before .before .before .before .before .before .before .before .before .before .before .before .before .before .before .before .before .before .before .if1 .left)) put, front-inside put)
+
+pub compose-spec : {M : Type 1} → statement M
+compose-spec =
+    tie.close
+    (tie.spec
+    refusal-requires
+    same-length
+    returns
+    slice-aggregate-read-file
+    slice-aggregate-read-file-2
+    slice-aggregate-read-file-3
+    slice-aggregate-read-file-4
+    slice-aggregate-read-file-5
+    slice-aggregate-read-file-6
+    slice-aggregate-read-file-7
+    slice-aggregate-read-file-8
+    read-file-requires
+    same-length-2
+    returns-2)

@@ -1,0 +1,76 @@
+-- `frame_text::lines` meets its contract. Assumes nothing.
+use Prim.Native.Nat.{_-_}
+use native.Mathlib.Omega.{arith}
+use lib.ListN.{length}
+use borrow.Author.Needs.{needs}
+use Rattle.frame_text.specs.Composing.{Composed, composed-none, line-room, composed-next, composed-all}
+use Rattle.frame_text.proofs.lines.Statement.{statement}
+use Rattle.frame_text.proofs.lines.Tie as tie
+
+abbrev Inv-loop : tie.InvT-loop
+Inv-loop text₀ at width red green blue next₀ k₀ text next k = Composed width red green blue text₀ at k text next
+
+abbrev μ-loop : tie.MeasureT-loop
+μ-loop text₀ at width red green blue next₀ k₀ text next k = length red - k
+
+loop-holds : tie.Need-loop-holds Inv-loop μ-loop
+loop-holds c = composed-none _ _ _ _ _ _ (c .before .pre .1 .1)
+
+div-site-line : tie.Need-div-site-line Inv-loop μ-loop
+div-site-line c = omega (arith, c .before .before .before .before .pre .0 .0)
+
+rem-site-line : tie.Need-rem-site-line Inv-loop μ-loop
+rem-site-line c = omega (arith, c .before .before .before .before .pre .0 .0)
+
+number-at-requires : tie.Need-number-at-requires Inv-loop μ-loop
+number-at-requires c κs = (c .before .before .before .before .pre .1 .0 .0, omega arith)
+
+number-at-requires-2 : tie.Need-number-at-requires-2 Inv-loop μ-loop
+number-at-requires-2 c κs = (c .before .before .before .before .before .pre .1 .0 .1, omega (arith, c .before .before .before .before .before .pre .0 .1))
+
+number-at-requires-3 : tie.Need-number-at-requires-3 Inv-loop μ-loop
+number-at-requires-3 c κs = (c .before .before .before .before .before .before .pre .1 .0 .2, omega (arith, c .before .before .before .before .before .before .pre .0 .2))
+
+site-line-requires : tie.Need-site-line-requires Inv-loop μ-loop
+site-line-requires c κs =
+    line-room _ _ _ _ _ _ (c .before .before .before .before .before .before .before .pre .1 .1) _ _ _ (c .before .before .before .before .before .loop .inv) (c .before .before .before .before .loop-test .taken) _ _ _
+    (c .before .before .number-at .ensures) (c .before .number-at2 .ensures) (c .number-at3 .ensures)
+
+add-k : tie.Need-add-k Inv-loop μ-loop
+add-k c = search needs
+
+loop-less : tie.Need-loop-less Inv-loop μ-loop
+loop-less c = search needs
+
+loop-again : tie.Need-loop-again Inv-loop μ-loop
+loop-again c =
+    let called = c .before .before in
+    let start = called .before .before .before .before .before .before .before .before in
+    composed-next _ _ _ _ _ _ (start .pre .1 .1) _ _ _ (called .before .before .before .before .before .before .loop .inv) (called .before .before .before .before .before .loop-test .taken) _ _ _
+    (called .before .before .before .number-at .ensures) (called .before .before .number-at2 .ensures) (called .before .number-at3 .ensures) _ _
+    (called .site-line .ensures)
+
+same-length : tie.Need-same-length Inv-loop μ-loop
+same-length c = c .before .loop .inv .size
+
+returns : tie.Need-returns Inv-loop μ-loop
+returns c = composed-all _ _ _ _ _ _ (c .before .before .before .pre .1 .1) _ _ _ (c .before .loop .inv) (omega arith)
+
+pub lines-spec : {M : Type 1} → statement M
+lines-spec =
+    tie.close
+    (tie.spec
+    Inv-loop
+    μ-loop
+    loop-holds
+    div-site-line
+    rem-site-line
+    number-at-requires
+    number-at-requires-2
+    number-at-requires-3
+    site-line-requires
+    add-k
+    loop-less
+    loop-again
+    same-length
+    returns)

@@ -1,0 +1,24 @@
+-- `frame_text::number_at` meets its contract. Assumes nothing.
+use lib.IntN.{pos}
+use lib.ListN.{getD}
+use Rattle.frame_text.specs.PlanesText.{cast-number}
+use borrow.Author.Needs.{needs}
+use Rattle.frame_text.proofs.number_at.Statement.{statement}
+use Rattle.frame_text.proofs.number_at.Tie as tie
+
+mul-result : tie.Need-mul-result
+mul-result c = search needs
+
+shared-slice-copy-out-result : tie.Need-shared-slice-copy-out-result
+shared-slice-copy-out-result c = search needs
+
+cast-result : tie.Need-cast-result
+cast-result c =
+    let start = c .before in
+    cast-number (getD (start .args .plane .now) (start .args .k) (pos 0)) (record { sfits = c .result .given }) (start .pre .0 .low (start .args .k)) (start .pre .0 .high (start .args .k))
+
+returns : tie.Need-returns
+returns c = search needs
+
+pub number-at-spec : {M : Type 1} → statement M
+number-at-spec = tie.close (tie.spec mul-result shared-slice-copy-out-result cast-result returns)

@@ -1,0 +1,200 @@
+-- `frame_text::read_file` meets its contract. Assumes nothing.
+use mathlib.Core.Path.{_≡_, sym, _∙_}
+use Prim.Native.Nat.{_*_, _≤_}
+use native.Mathlib.Omega.{arith}
+use Rattle.frame_file.specs.FrameFile.{read-answer}
+use Rattle.text.specs.Put.{put-as}
+use Rattle.frame_text.specs.Buffers.{parts-lent}
+use Rattle.frame_text.specs.Reads.{few, refusal-printed, frame-printed}
+use borrow.Author.Needs.{needs}
+use Rattle.frame_text.proofs.read_file.Statement.{statement}
+use Rattle.frame_text.proofs.read_file.Tie as tie
+
+read-requires : tie.Need-read-requires
+read-requires c κs = search needs
+
+enum-known-why : tie.Need-enum-known-why
+enum-known-why c = search needs
+
+refusal-requires : tie.Need-refusal-requires
+refusal-requires c κs = search needs
+
+enum-known-shape : tie.Need-enum-known-shape
+enum-known-shape c = search needs
+
+mul-count : tie.Need-mul-count
+mul-count c = let small = few (c .before .before .before .before .before .before .before .before .before .before .before .args .file .now) (c .before .before .before .before .before .before .before .before .before .before .before .args .samples .now) (c .before .before .before .before .before .before .before .before .before .before .before .pre .0 .1) _ (sym (c .before .before .shape .given .1) ∙ c .before .before .before .before .before .before .read .ensures .0) in omega arith
+
+mul-size : tie.Need-mul-size
+mul-size c = let small = few (c .before .before .before .before .before .before .before .before .before .before .before .args .file .now) (c .before .before .before .before .before .before .before .before .before .before .before .args .samples .now) (c .before .before .before .before .before .before .before .before .before .before .before .pre .0 .1) _ (sym (c .before .before .shape .given .1) ∙ c .before .before .before .before .before .before .read .ensures .0) in omega arith
+
+sub-develop-frame : tie.Need-sub-develop-frame
+sub-develop-frame c = search needs
+
+part-develop-frame-start : tie.Need-part-develop-frame-start
+part-develop-frame-start c = search needs
+
+part-develop-frame-end : tie.Need-part-develop-frame-end
+part-develop-frame-end c = let small = few (c .before .before .before .before .before .before .before .before .before .before .before .before .before .args .file .now) (c .before .before .before .before .before .before .before .before .before .before .before .before .before .args .samples .now) (c .before .before .before .before .before .before .before .before .before .before .before .before .before .pre .0 .1) _ (sym (c .before .before .before .before .shape .given .1) ∙ c .before .before .before .before .before .before .before .before .read .ensures .0) in search needs
+
+sub-develop-frame-2 : tie.Need-sub-develop-frame-2
+sub-develop-frame-2 c = search needs
+
+part-develop-frame-start-2 : tie.Need-part-develop-frame-start-2
+part-develop-frame-start-2 c = search needs
+
+part-develop-frame-end-2 : tie.Need-part-develop-frame-end-2
+part-develop-frame-end-2 c = let small = few (c .before .before .before .before .before .before .before .before .before .before .before .before .before .before .args .file .now) (c .before .before .before .before .before .before .before .before .before .before .before .before .before .before .args .samples .now) (c .before .before .before .before .before .before .before .before .before .before .before .before .before .before .pre .0 .1) _ (sym (c .before .before .before .before .before .shape .given .1) ∙ c .before .before .before .before .before .before .before .before .before .read .ensures .0) in search needs
+
+sub-develop-frame-3 : tie.Need-sub-develop-frame-3
+sub-develop-frame-3 c = search needs
+
+part-develop-frame-start-3 : tie.Need-part-develop-frame-start-3
+part-develop-frame-start-3 c = search needs
+
+part-develop-frame-end-3 : tie.Need-part-develop-frame-end-3
+part-develop-frame-end-3 c = let small = few (c .before .before .before .before .before .before .before .before .before .before .before .before .before .before .before .args .file .now) (c .before .before .before .before .before .before .before .before .before .before .before .before .before .before .before .args .samples .now) (c .before .before .before .before .before .before .before .before .before .before .before .before .before .before .before .pre .0 .1) _ (sym (c .before .before .before .before .before .before .shape .given .1) ∙ c .before .before .before .before .before .before .before .before .before .before .read .ensures .0) in search needs
+
+sub-develop-frame-4 : tie.Need-sub-develop-frame-4
+sub-develop-frame-4 c = search needs
+
+part-develop-frame-start-4 : tie.Need-part-develop-frame-start-4
+part-develop-frame-start-4 c = search needs
+
+part-develop-frame-end-4 : tie.Need-part-develop-frame-end-4
+part-develop-frame-end-4 c = let small = few (c .before .before .before .before .before .before .before .before .before .before .before .before .before .before .before .before .args .file .now) (c .before .before .before .before .before .before .before .before .before .before .before .before .before .before .before .before .args .samples .now) (c .before .before .before .before .before .before .before .before .before .before .before .before .before .before .before .before .pre .0 .1) _ (sym (c .before .before .before .before .before .before .before .shape .given .1) ∙ c .before .before .before .before .before .before .before .before .before .before .before .read .ensures .0) in search needs
+
+sub-develop-frame-5 : tie.Need-sub-develop-frame-5
+sub-develop-frame-5 c = search needs
+
+part-develop-frame-start-5 : tie.Need-part-develop-frame-start-5
+part-develop-frame-start-5 c = search needs
+
+part-develop-frame-end-5 : tie.Need-part-develop-frame-end-5
+part-develop-frame-end-5 c = let small = few (c .before .before .before .before .before .before .before .before .before .before .before .before .before .before .before .before .before .args .file .now) (c .before .before .before .before .before .before .before .before .before .before .before .before .before .before .before .before .before .args .samples .now) (c .before .before .before .before .before .before .before .before .before .before .before .before .before .before .before .before .before .pre .0 .1) _ (sym (c .before .before .before .before .before .before .before .before .shape .given .1) ∙ c .before .before .before .before .before .before .before .before .before .before .before .before .read .ensures .0) in search needs
+
+sub-develop-frame-6 : tie.Need-sub-develop-frame-6
+sub-develop-frame-6 c = search needs
+
+part-develop-frame-start-6 : tie.Need-part-develop-frame-start-6
+part-develop-frame-start-6 c = search needs
+
+part-develop-frame-end-6 : tie.Need-part-develop-frame-end-6
+part-develop-frame-end-6 c = let small = few (c .before .before .before .before .before .before .before .before .before .before .before .before .before .before .before .before .before .before .args .file .now) (c .before .before .before .before .before .before .before .before .before .before .before .before .before .before .before .before .before .before .args .samples .now) (c .before .before .before .before .before .before .before .before .before .before .before .before .before .before .before .before .before .before .pre .0 .1) _ (sym (c .before .before .before .before .before .before .before .before .before .shape .given .1) ∙ c .before .before .before .before .before .before .before .before .before .before .before .before .before .read .ensures .0) in search needs
+
+sub-develop-frame-7 : tie.Need-sub-develop-frame-7
+sub-develop-frame-7 c = search needs
+
+part-develop-frame-start-7 : tie.Need-part-develop-frame-start-7
+part-develop-frame-start-7 c = search needs
+
+part-develop-frame-end-7 : tie.Need-part-develop-frame-end-7
+part-develop-frame-end-7 c = let small = few (c .before .before .before .before .before .before .before .before .before .before .before .before .before .before .before .before .before .before .before .args .file .now) (c .before .before .before .before .before .before .before .before .before .before .before .before .before .before .before .before .before .before .before .args .samples .now) (c .before .before .before .before .before .before .before .before .before .before .before .before .before .before .before .before .before .before .before .pre .0 .1) _ (sym (c .before .before .before .before .before .before .before .before .before .before .shape .given .1) ∙ c .before .before .before .before .before .before .before .before .before .before .before .before .before .before .read .ensures .0) in search needs
+
+sub-develop-frame-8 : tie.Need-sub-develop-frame-8
+sub-develop-frame-8 c = search needs
+
+part-develop-frame-start-8 : tie.Need-part-develop-frame-start-8
+part-develop-frame-start-8 c = search needs
+
+part-develop-frame-end-8 : tie.Need-part-develop-frame-end-8
+part-develop-frame-end-8 c = let small = few (c .before .before .before .before .before .before .before .before .before .before .before .before .before .before .before .before .before .before .before .before .args .file .now) (c .before .before .before .before .before .before .before .before .before .before .before .before .before .before .before .before .before .before .before .before .args .samples .now) (c .before .before .before .before .before .before .before .before .before .before .before .before .before .before .before .before .before .before .before .before .pre .0 .1) _ (sym (c .before .before .before .before .before .before .before .before .before .before .before .shape .given .1) ∙ c .before .before .before .before .before .before .before .before .before .before .before .before .before .before .before .read .ensures .0) in search needs
+
+develop-frame-requires : tie.Need-develop-frame-requires
+develop-frame-requires c κs =
+    let small = few (c .before .before .before .before .before .before .before .before .before .before .before .before .before .before .before .before .before .before .before .before .before .args .file .now) (c .before .before .before .before .before .before .before .before .before .before .before .before .before .before .before .before .before .before .before .before .before .args .samples .now) (c .before .before .before .before .before .before .before .before .before .before .before .before .before .before .before .before .before .before .before .before .before .pre .0 .1) _ (sym (c .before .before .before .before .before .before .before .before .before .before .before .before .shape .given .1) ∙ c .before .before .before .before .before .before .before .before .before .before .before .before .before .before .before .before .read .ensures .0) in
+    let start = c .before .before .before .before .before .before .before .before .before .before .before .before .before .before .before .before .before .before .before .before .before in
+    ((small, start .pre .0 .0), parts-lent _ small (start .pre .1))
+
+same-length : tie.Need-same-length
+same-length c = search needs
+
+same-length-2 : tie.Need-same-length-2
+same-length-2 c = search needs
+
+returns : tie.Need-returns
+returns c =
+    let start = c .before .before .before .before .before .before .before .before .before .before .before .before .before .before in
+    put-as (refusal-printed (start .args .file .now) (start .args .samples .now) (start .pre .0 .1) _ (sym (c .before .before .before .before .before .why .given .1) ∙ c .before .before .before .before .before .before .before .before .before .read .ensures .0)) (c .before .before .refusal .ensures)
+
+same-length-3 : tie.Need-same-length-3
+same-length-3 c = search needs
+
+same-length-4 : tie.Need-same-length-4
+same-length-4 c = c .before .before .before .before .before .before .before .before .before .before .before .before .before .before .before .before .before .before .before .before .before .before .before .before .before .before .read .kept .1 .0
+
+same-length-5 : tie.Need-same-length-5
+same-length-5 c = c .before .before .before .before .before .before .red .given .1
+
+same-length-6 : tie.Need-same-length-6
+same-length-6 c = search needs
+
+same-length-7 : tie.Need-same-length-7
+same-length-7 c = search needs
+
+same-length-8 : tie.Need-same-length-8
+same-length-8 c = search needs
+
+same-length-9 : tie.Need-same-length-9
+same-length-9 c = search needs
+
+same-length-10 : tie.Need-same-length-10
+same-length-10 c = search needs
+
+same-length-11 : tie.Need-same-length-11
+same-length-11 c = search needs
+
+returns-2 : tie.Need-returns-2
+returns-2 c =
+    let start = c .before .before .before .before .before .before .before .before .before .before .before .before .before .before .before .before .before .before .before .before .before .before .before .before .before .before .before .before .before .before .before in
+    put-as (frame-printed (start .args .file .now) (start .args .samples .now) (start .pre .0 .1) _ _ (sym (c .before .before .before .before .before .before .before .before .before .before .before .before .before .before .before .before .before .before .before .before .before .before .shape .given .1) ∙ c .before .before .before .before .before .before .before .before .before .before .before .before .before .before .before .before .before .before .before .before .before .before .before .before .before .before .read .ensures .0) (c .before .before .before .before .before .before .before .before .before .before .before .before .before .before .before .before .before .before .before .before .before .before .before .before .before .before .read .ensures .1))
+    (c .before .before .before .before .before .before .before .before .before .develop-frame .ensures)
+
+pub read-file-spec : {M : Type 1} → statement M
+read-file-spec =
+    tie.close
+    (tie.spec
+    read-requires
+    enum-known-why
+    refusal-requires
+    enum-known-shape
+    mul-count
+    mul-size
+    sub-develop-frame
+    part-develop-frame-start
+    part-develop-frame-end
+    sub-develop-frame-2
+    part-develop-frame-start-2
+    part-develop-frame-end-2
+    sub-develop-frame-3
+    part-develop-frame-start-3
+    part-develop-frame-end-3
+    sub-develop-frame-4
+    part-develop-frame-start-4
+    part-develop-frame-end-4
+    sub-develop-frame-5
+    part-develop-frame-start-5
+    part-develop-frame-end-5
+    sub-develop-frame-6
+    part-develop-frame-start-6
+    part-develop-frame-end-6
+    sub-develop-frame-7
+    part-develop-frame-start-7
+    part-develop-frame-end-7
+    sub-develop-frame-8
+    part-develop-frame-start-8
+    part-develop-frame-end-8
+    develop-frame-requires
+    same-length
+    same-length-2
+    returns
+    same-length-3
+    same-length-4
+    same-length-5
+    same-length-6
+    same-length-7
+    same-length-8
+    same-length-9
+    same-length-10
+    same-length-11
+    returns-2)

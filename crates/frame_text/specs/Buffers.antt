@@ -1,0 +1,36 @@
+-- The buffers that develop and clamp are lent for so many samples. Assumes nothing.
+use mathlib.Core.Path.{_≡_, _∙_}
+use mathlib.Core.List.{List}
+use Prim.Native.Nat.{ℕ, _*_, _-_, _≤_}
+use native.Mathlib.Nat.{sub-zero}
+use native.Mathlib.Omega.{arith}
+use lib.IntN.{ℤ}
+use lib.ListN.{length, take, drop, length-take}
+
+pub record Planes-lent (n : ℕ) (red green blue work reds greens blues : List ℤ) : Type 0 where
+  pub red-size : length red ≡ n
+  pub green-size : length green ≡ n
+  pub blue-size : length blue ≡ n
+  pub work-size : length work ≡ 4 * n
+  pub reds-size : length reds ≡ n
+  pub greens-size : length greens ≡ n
+  pub blues-size : length blues ≡ n
+
+-- the part of a buffer that is lent for n entries
+abbrev pub front : List ℤ → ℕ → List ℤ
+front l n = take (n - 0) (drop 0 l)
+
+length-front : (l : List ℤ) (n m : ℕ) → length l ≡ m → n ≤ m → length (front l n) ≡ n
+length-front l n m e h = rw (sub-zero n) (length-take n l ∙ omega arith)
+
+pub parts-lent : {m : ℕ} {red green blue work reds greens blues : List ℤ} (n : ℕ) → n ≤ m → Planes-lent m red green blue work reds greens blues
+    → Planes-lent n (front red n) (front green n) (front blue n) (front work (4 * n)) (front reds n) (front greens n) (front blues n)
+parts-lent {m} n h p = record {
+  red-size = length-front _ n m (p .red-size) h;
+  green-size = length-front _ n m (p .green-size) h;
+  blue-size = length-front _ n m (p .blue-size) h;
+  work-size = length-front _ (4 * n) (4 * m) (p .work-size) (omega arith);
+  reds-size = length-front _ n m (p .reds-size) h;
+  greens-size = length-front _ n m (p .greens-size) h;
+  blues-size = length-front _ n m (p .blues-size) h;
+}

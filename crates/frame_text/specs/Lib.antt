@@ -1,0 +1,6 @@
+pub mod PlanesText
+pub mod Room
+pub mod Reads
+pub mod Buffers
+pub mod Composing
+pub mod Developed

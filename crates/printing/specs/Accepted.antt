@@ -1,0 +1,30 @@
+-- Develop refuses no frame that read accepts: of a file of bytes that holds a frame of at most 1,024 samples the program prints that
+-- frame's text. Assumes nothing.
+use mathlib.Core.Path.{_≡_, refl}
+use mathlib.Core.List.{List}
+use Prim.Native.Nat.{ℕ, _*_, _≤_}
+use native.Mathlib.Omega.{arith}
+use native.Mathlib.Nat.{le-refl}
+use lib.ListN.{length}
+use lib.Dec.{ltb}
+use Rattle.toolkit.specs.Tests.{ltb-no, eqb-yes, leb-yes}
+use Rattle.frame.specs.declared.Answer.the-variants.{Done}
+use Rattle.frame.specs.Sites.{Frame}
+use Rattle.frame.specs.Calls.{Admitted, lengths-allowed, develop-answer}
+use Rattle.frame.specs.Admission.{admitted-done}
+use Rattle.frame_file.specs.Lists.{Below}
+use Rattle.frame_file.specs.FrameFile.{reading, accepted}
+use Rattle.frame_file.specs.AcceptedExactlyWhenWritten.{accepted-is-written}
+use Rattle.printing.specs.Printing.{lent, frame-text, printed}
+
+pub admitted-developed : (f : Frame) → Admitted f → develop-answer f (lent f) ≡ Done
+unfolding develop-answer lengths-allowed
+admitted-developed f a =
+    let n : ℕ = f .height * f .width in
+    admitted-done f (lengths-allowed f (lent f)) (rw (eqb-yes {m = n} {n = n} refl, leb-yes {m = 4 * n} {n = 4 * n} (le-refl (4 * n))) tt) a
+
+pub accepted-printed : (file : List ℕ) → Below 256 file → length file ≤ 2048 → (f : Frame) → reading file 1024 ≡ accepted f
+    → printed file ≡ frame-text f
+unfolding printed
+accepted-printed file bytes short f e =
+    rw (ltb-no {m = 2048} {n = length file} short, e, admitted-developed f (accepted-is-written file bytes 1024 f e .admitted))
