@@ -2,10 +2,14 @@
 #               (the first time the program's crates are proved, which takes minutes)
 # make test     proves every crate and passes the tests; its last line is 'N passed, M failed'
 # make bench    times the proved library beside the plain version, in bench/
+# make tool     builds the command-line tool, build/tool/release/bayer-tool
+# make turned   develops the built-in glaze before and after the list CHANGES, by the library and by the old way
+# make soak     CALLS random and damaged calls of every export, against the independent implementation; SEED and FROM repeat them
 # make lib      proves the library and writes build/lib/libbayer.a and libbayer.so
 # make install  puts the libraries, the header and the pkg-config file under PREFIX; `make lib` comes first where it is due
 PREFIX ?= /usr/local
-.PHONY: run test bench lib install
+CHANGES ?= transpose left-right
+.PHONY: run test bench tool turned soak lib install
 
 FRAME ?= examples/glaze.bayr
 
@@ -19,6 +23,16 @@ test:
 
 bench: lib
 	@CARGO_TARGET_DIR=build/bench cargo run --quiet --release --manifest-path bench/Cargo.toml --bin speed
+
+tool: build/lib/libbayer.so
+	@CARGO_TARGET_DIR=build/tool cargo build --quiet --release --manifest-path tools/bayer-tool/Cargo.toml
+
+turned: tool
+	@build/tool/release/bayer-tool turned $(CHANGES)
+
+soak: build/lib/libbayer.so
+	@CARGO_TARGET_DIR=build/compare cargo run --quiet --release --manifest-path tests/compare/Cargo.toml --bin soak -- \
+	    "$(CALLS)" "$(SEED)" "$(FROM)"
 
 lib:
 	@rt staticlib bayer

@@ -4,7 +4,7 @@ mod both;
 #[path = "../../reference/tests/common/mod.rs"]
 mod common;
 
-use both::both_develop;
+use both::{both_develop, disturb};
 use common::lent::Lent;
 use common::{frame, with, Generator, KINDS};
 use reference::calls::{refused, returned};
@@ -24,22 +24,6 @@ fn every_set_of_faults_at_once() {
         }
         let answer = both_develop(&format!("seed {seed}, faults {faults:05b}"), &lent);
         assert_eq!(answer, refused(faults.trailing_zeros() + 1, 0));
-    }
-}
-
-/// Changes at random what may be wrong with a call.
-fn disturb(generator: &mut Generator, lent: &mut Lent) {
-    for number in 1..=4 {
-        if generator.size(0, 7) == 0 {
-            lent.spoil(number, generator);
-        }
-    }
-    if generator.size(0, 7) == 0 {
-        lent.height = generator.one_of(&[0, 1, 4_097, 1 << 32, usize::MAX]);
-    }
-    for _ in 0..generator.size(0, 2) {
-        let place = generator.size(0, lent.mosaic.len() - 1);
-        lent.mosaic[place] = generator.one_of(&[1_023, 1_024, 1_025, 4_096, u16::MAX]);
     }
 }
 

@@ -1,35 +1,14 @@
 //! The proved read against the independent one: answers, values, and every entry of the lent samples.
 
+mod both;
 #[path = "../../reference/tests/common/mod.rs"]
 mod common;
 
+use both::read::{both_read, damage};
 use common::{frame_of_sides, set_check, written, Generator, Kind, KINDS};
 use reference::calls::Refusal;
-use reference::frame_file::{self, Description, BLOCK};
+use reference::frame_file::{Description, BLOCK};
 use reference::sites::Frame;
-
-/// Reads twice into equal buffers; both answers and both buffers must be equal.
-fn both_read(file: &[u8], room: usize) -> Result<Description, Refusal> {
-    let before: Vec<u16> = (0..room).map(|k| (k * 31 + 5) as u16).collect();
-    let (mut expected_samples, mut samples) = (before.clone(), before.clone());
-    let expected = frame_file::read(file, &mut expected_samples);
-    let answer = compare::read(file, &mut samples);
-    assert_eq!(
-        answer,
-        expected,
-        "a file of {} bytes, room {room}",
-        file.len()
-    );
-    assert!(
-        samples == expected_samples,
-        "a file of {} bytes, room {room}",
-        file.len()
-    );
-    if answer.is_err() {
-        assert!(samples == before, "a refusal leaves the samples");
-    }
-    answer
-}
 
 fn number(answer: Result<Description, Refusal>) -> usize {
     answer.map_or_else(|why| why.number as usize, |_| 0)
@@ -95,35 +74,6 @@ fn every_length() {
     file.extend_from_within(..700);
     for length in 0..file.len() {
         let _ = both_read(&file[..length], 420);
-    }
-}
-
-/// One fault, with or without the check set anew.
-fn damage(generator: &mut Generator, file: &mut Vec<u8>) {
-    let blocks = (file.len() / BLOCK).max(1);
-    let number = generator.size(0, blocks - 1);
-    let within = match generator.size(0, 5) {
-        0 => generator.size(0, 3),
-        1 => generator.size(4, 12),
-        2 => generator.size(13, 507),
-        3 => generator.size(500, 507),
-        4 => generator.size(508, 511),
-        _ => generator.size(0, 511),
-    };
-    let place = number * BLOCK + within;
-    if place < file.len() {
-        file[place] = generator.one_of(&[0, 1, 2, 16, 255, 64]);
-    }
-    match generator.size(0, 11) {
-        0 => file.truncate(file.len() - BLOCK.min(file.len())),
-        1 => file.extend(std::iter::repeat(0).take(BLOCK)),
-        2 => drop(file.pop()),
-        _ => {}
-    }
-    if generator.size(0, 4) > 0 {
-        for block in 0..file.len() / BLOCK {
-            set_check(file, block);
-        }
     }
 }
 

@@ -1,5 +1,9 @@
-//! One call of develop given to both implementations.
+//! Calls given to both implementations; here those of develop.
 #![allow(dead_code)] // each test file uses a part
+
+pub mod clamp;
+pub mod read;
+pub mod write;
 
 use crate::common::lent::Lent;
 use crate::common::{Developed, Generator};
@@ -61,6 +65,22 @@ pub fn both_develop(at: &str, lent: &Lent) -> Result<(), Refusal> {
         assert!(left == expected, "{at}: the buffers");
     }
     expected_answer
+}
+
+/// Changes at random what may be wrong with a call.
+pub fn disturb(generator: &mut Generator, lent: &mut Lent) {
+    for number in 1..=4 {
+        if generator.size(0, 7) == 0 {
+            lent.spoil(number, generator);
+        }
+    }
+    if generator.size(0, 7) == 0 {
+        lent.height = generator.one_of(&[0, 1, 4_097, 1 << 32, usize::MAX]);
+    }
+    for _ in 0..generator.size(0, 2) {
+        let place = generator.size(0, lent.mosaic.len() - 1);
+        lent.mosaic[place] = generator.one_of(&[1_023, 1_024, 1_025, 4_096, u16::MAX]);
+    }
 }
 
 /// Develops an accepted frame by both, into buffers that hold anything.

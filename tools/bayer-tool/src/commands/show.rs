@@ -1,0 +1,42 @@
+//! show FRAME PICTURE: the developed and clamped frame, each number of 0..1,023 as the nearest of 0..255.
+
+use crate::arguments::Arguments;
+use crate::frames::{self, Planes};
+use crate::picture::{Kind, Picture};
+use crate::problem::Problem;
+use crate::progress::Progress;
+use bayer::Refusal;
+use reference::sites::Frame;
+
+/// The planes of a frame held to 0..1,023.
+fn clamped(frame: &Frame) -> Result<Planes, Refusal> {
+    let mut held = [(); 3].map(|()| vec![0; frame.samples.len()]);
+    for (plane, held) in frames::developed(frame)?.iter().zip(&mut held) {
+        bayer::clamp(plane, held)?;
+    }
+    Ok(held)
+}
+
+/// The nearest byte: 255/1,023 of the number.
+pub fn byte(number: i32) -> u8 {
+    ((2 * 255 * number + 1023) / (2 * 1023)) as u8
+}
+
+pub fn picture(frame: &Frame) -> Result<Picture, Refusal> {
+    let planes = clamped(frame)?;
+    let (width, height) = (frame.width, frame.height);
+    let at = |row, column| [0, 1, 2].map(|k: usize| byte(planes[k][row * width + column]));
+    Ok(Picture::form(width, height, at))
+}
+
+pub fn run(words: &[String]) -> Result<(), Problem> {
+    let arguments = Arguments::parse(words, &[], &[])?;
+    let [from, to] = arguments.exactly(["FRAME", "PICTURE"])?;
+    let kind = Kind::of(to)?;
+    let frame = frames::load(from)?;
+    let progress = Progress::of(frame.samples.len());
+    progress.step("developing");
+    let picture = picture(&frame).map_err(|why| Problem::Refused(from.into(), why))?;
+    progress.step("writing the picture");
+    picture.save(kind, to)
+}
