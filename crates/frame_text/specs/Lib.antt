@@ -4,3 +4,4 @@ pub mod Reads
 pub mod Buffers
 pub mod Composing
 pub mod Developed
+pub mod TextLeft

@@ -1,9 +1,12 @@
 -- `frame_text::compose` meets its contract. Assumes nothing.
-use Rattle.text.specs.Put.{put-as, front-inside}
-use Rattle.frame_text.specs.Reads.{long-printed, short-printed}
 use borrow.Author.Needs.{needs}
+use Rattle.frame_text.specs.Reads.{long-printed, short-printed}
+use Rattle.frame_text.specs.TextLeft.{text-short, text-put}
 use Rattle.frame_text.proofs.compose.Statement.{statement}
 use Rattle.frame_text.proofs.compose.Tie as tie
+
+returns : tie.Need-returns
+returns c = text-short _ _ (c .if1 .taken)
 
 refusal-requires : tie.Need-refusal-requires
 refusal-requires c κs = search needs
@@ -11,8 +14,11 @@ refusal-requires c κs = search needs
 same-length : tie.Need-same-length
 same-length c = search needs
 
-returns : tie.Need-returns
-returns c = let put = c .before .before .refusal .ensures in (put-as (long-printed _ (c .before .before .before .before .if1 .taken)) put, front-inside put)
+returns-2 : tie.Need-returns-2
+returns-2 c =
+    let called = c .before .before in
+    let tested = called .before .before in
+    text-put (tested .before .if1 .left) (long-printed _ (tested .if2 .taken)) (called .refusal .ensures)
 
 slice-aggregate-read-file : tie.Need-slice-aggregate-read-file
 slice-aggregate-read-file c = search needs
@@ -44,16 +50,20 @@ read-file-requires c κs = search needs
 same-length-2 : tie.Need-same-length-2
 same-length-2 c = search needs
 
-returns-2 : tie.Need-returns-2
-returns-2 c = let put = c .before .before .before .before .before .before .before .before .before .before .read-file .ensures in (put-as (short-printed _ (c .before .before .before .before .before .before .before .before .before .before .before .before .before .before .before .before .before .before .before .before .if1 .left)) put, front-inside put)
+returns-3 : tie.Need-returns-3
+returns-3 c =
+    let called = c .before .before .before .before .before .before .before .before .before .before in
+    let tested = called .before .before .before .before .before .before .before .before .before .before in
+    text-put (tested .before .if1 .left) (short-printed _ (tested .if2 .left)) (called .read-file .ensures)
 
 pub compose-spec : {M : Type 1} → statement M
 compose-spec =
     tie.close
     (tie.spec
+    returns
     refusal-requires
     same-length
-    returns
+    returns-2
     slice-aggregate-read-file
     slice-aggregate-read-file-2
     slice-aggregate-read-file-3
@@ -64,4 +74,4 @@ compose-spec =
     slice-aggregate-read-file-8
     read-file-requires
     same-length-2
-    returns-2)
+    returns-3)

@@ -29,19 +29,28 @@ clamp-plane-requires-3 c κs = search needs
 
 planes-requires : tie.Need-planes-requires
 planes-requires c κs =
-    let start = c .before .before .before .before .before .before .before .before .before .before .before .before .before .before .before .before .before .before .before .before .before .before .before .before .before .before .before .before .before in
+    let blue = c .before .before .before .before .before in
+    let green = blue .before .before .before .before in
+    let red = green .before .before .before .before in
+    let told = red .before .before .before in
+    let called = told .before .before .before .before .before .before in
+    let start = called .before .before .before .before .before .before .before in
     let l : Left _ _ _ _ _ _ _ _ _ _ _ _ = record {
-      answered = c .before .before .before .before .before .before .before .before .before .before .before .before .before .before .before .before .before .before .before .before .before .before .develop .ensures .0;
-      done = c .before .before .before .before .before .before .before .before .before .before .before .before .before .before .before .before .enum-told .given .1;
-      red-left = c .before .before .before .before .before .before .before .before .before .before .before .before .before .before .before .before .before .before .before .before .before .before .develop .ensures .1 .0;
-      green-left = c .before .before .before .before .before .before .before .before .before .before .before .before .before .before .before .before .before .before .before .before .before .before .develop .ensures .1 .1 .0;
-      blue-left = c .before .before .before .before .before .before .before .before .before .before .before .before .before .before .before .before .before .before .before .before .before .before .develop .ensures .1 .1 .1 .0;
-      reds-left = c .before .before .before .before .before .before .before .before .before .before .before .before .before .clamp-plane .ensures;
-      greens-left = c .before .before .before .before .before .before .before .before .before .clamp-plane2 .ensures;
-      blues-left = c .before .before .before .before .before .clamp-plane3 .ensures;
+      answered = called .develop .ensures .0;
+      done = told .enum-told .given .1;
+      red-left = called .develop .ensures .1 .0;
+      green-left = called .develop .ensures .1 .1 .0;
+      blue-left = called .develop .ensures .1 .1 .1 .0;
+      reds-left = red .clamp-plane .ensures;
+      greens-left = green .clamp-plane2 .ensures;
+      blues-left = blue .clamp-plane3 .ensures;
     } in
-    let p = start .pre .1 in
-    ((wide (start .args .shape) (start .args .mosaic .now) p l, green-length (start .args .shape) (start .args .mosaic .now) p l, blue-length (start .args .shape) (start .args .mosaic .now) p l), (all-clamped (start .args .shape) (start .args .mosaic .now) p l, (omega (arith, red-length (start .args .shape) (start .args .mosaic .now) p l, start .pre .0 .0), start .pre .0 .1)))
+    let shape = start .args .shape in
+    let mosaic = start .args .mosaic .now in
+    let p = start .pre .1 in (
+      (wide shape mosaic p l, green-length shape mosaic p l, blue-length shape mosaic p l),
+      (all-clamped shape mosaic p l, (omega (arith, red-length shape mosaic p l, start .pre .0 .0), start .pre .0 .1)),
+    )
 
 same-length : tie.Need-same-length
 same-length c = search needs
@@ -60,9 +69,11 @@ same-length-5 c = search needs
 
 returns : tie.Need-returns
 returns c =
-    let start = c .before .before .before .before .before .before .before .before .before .before .before .before .before .before .before .before .before .before in
-    let called = c .before .before .before .before .before .before .before .before .before .before .before in
-    put-as (refused-text (start .args .shape) (start .args .mosaic .now) (start .pre .1) _ _ (called .develop .ensures .0) (c .before .before .before .before .before .why .given .1)) (c .before .before .refusal .ensures)
+    let matched = c .before .before .before .before .before in
+    let called = matched .before .before .before .before .before .before in
+    let start = called .before .before .before .before .before .before .before in
+    put-as (refused-text (start .args .shape) (start .args .mosaic .now) (start .pre .1) _ _ (called .develop .ensures .0) (matched .why .given .1))
+    (c .before .before .refusal .ensures)
 
 same-length-6 : tie.Need-same-length-6
 same-length-6 c = search needs
@@ -90,18 +101,26 @@ same-length-13 c = search needs
 
 returns-2 : tie.Need-returns-2
 returns-2 c =
-    let start = c .before .before .before .before .before .before .before .before .before .before .before .before .before .before .before .before .before .before .before .before .before .before .before .before .before .before .before .before .before .before .before .before in
+    let blue = c .before .before .before .before .before .before .before .before in
+    let green = blue .before .before .before .before in
+    let red = green .before .before .before .before in
+    let told = red .before .before .before in
+    let called = told .before .before .before .before .before .before in
+    let start = called .before .before .before .before .before .before .before in
     let l : Left _ _ _ _ _ _ _ _ _ _ _ _ = record {
-      answered = c .before .before .before .before .before .before .before .before .before .before .before .before .before .before .before .before .before .before .before .before .before .before .before .before .before .develop .ensures .0;
-      done = c .before .before .before .before .before .before .before .before .before .before .before .before .before .before .before .before .before .before .before .enum-told .given .1;
-      red-left = c .before .before .before .before .before .before .before .before .before .before .before .before .before .before .before .before .before .before .before .before .before .before .before .before .before .develop .ensures .1 .0;
-      green-left = c .before .before .before .before .before .before .before .before .before .before .before .before .before .before .before .before .before .before .before .before .before .before .before .before .before .develop .ensures .1 .1 .0;
-      blue-left = c .before .before .before .before .before .before .before .before .before .before .before .before .before .before .before .before .before .before .before .before .before .before .before .before .before .develop .ensures .1 .1 .1 .0;
-      reds-left = c .before .before .before .before .before .before .before .before .before .before .before .before .before .before .before .before .clamp-plane .ensures;
-      greens-left = c .before .before .before .before .before .before .before .before .before .before .before .before .clamp-plane2 .ensures;
-      blues-left = c .before .before .before .before .before .before .before .before .clamp-plane3 .ensures;
+      answered = called .develop .ensures .0;
+      done = told .enum-told .given .1;
+      red-left = called .develop .ensures .1 .0;
+      green-left = called .develop .ensures .1 .1 .0;
+      blue-left = called .develop .ensures .1 .1 .1 .0;
+      reds-left = red .clamp-plane .ensures;
+      greens-left = green .clamp-plane2 .ensures;
+      blues-left = blue .clamp-plane3 .ensures;
     } in
-    put-as (done-text (start .args .shape) (start .args .mosaic .now) (start .pre .1) l) (c .before .before .planes .ensures)
+    let shape = start .args .shape in
+    let mosaic = start .args .mosaic .now in
+    let p = start .pre .1 in
+    put-as (done-text shape mosaic p l) (c .before .before .planes .ensures)
 
 pub develop-frame-spec : {M : Type 1} → statement M
 develop-frame-spec =

@@ -26,14 +26,16 @@ number-at-requires : tie.Need-number-at-requires Inv-loop μ-loop
 number-at-requires c κs = (c .before .before .before .before .pre .1 .0 .0, omega arith)
 
 number-at-requires-2 : tie.Need-number-at-requires-2 Inv-loop μ-loop
-number-at-requires-2 c κs = (c .before .before .before .before .before .pre .1 .0 .1, omega (arith, c .before .before .before .before .before .pre .0 .1))
+number-at-requires-2 c κs = let start = c .before .before .before .before .before in (start .pre .1 .0 .1, omega (arith, start .pre .0 .1))
 
 number-at-requires-3 : tie.Need-number-at-requires-3 Inv-loop μ-loop
-number-at-requires-3 c κs = (c .before .before .before .before .before .before .pre .1 .0 .2, omega (arith, c .before .before .before .before .before .before .pre .0 .2))
+number-at-requires-3 c κs = let start = c .before .before .before .before .before .before in (start .pre .1 .0 .2, omega (arith, start .pre .0 .2))
 
 site-line-requires : tie.Need-site-line-requires Inv-loop μ-loop
 site-line-requires c κs =
-    line-room _ _ _ _ _ _ (c .before .before .before .before .before .before .before .pre .1 .1) _ _ _ (c .before .before .before .before .before .loop .inv) (c .before .before .before .before .loop-test .taken) _ _ _
+    let turn = c .before .before .before .before in
+    let start = turn .before .before .before in
+    line-room _ _ _ _ _ _ (start .pre .1 .1) _ _ _ (turn .before .loop .inv) (turn .loop-test .taken) _ _ _
     (c .before .before .number-at .ensures) (c .before .number-at2 .ensures) (c .number-at3 .ensures)
 
 add-k : tie.Need-add-k Inv-loop μ-loop
@@ -45,8 +47,9 @@ loop-less c = search needs
 loop-again : tie.Need-loop-again Inv-loop μ-loop
 loop-again c =
     let called = c .before .before in
-    let start = called .before .before .before .before .before .before .before .before in
-    composed-next _ _ _ _ _ _ (start .pre .1 .1) _ _ _ (called .before .before .before .before .before .before .loop .inv) (called .before .before .before .before .before .loop-test .taken) _ _ _
+    let turn = called .before .before .before .before .before in
+    let start = turn .before .before .before in
+    composed-next _ _ _ _ _ _ (start .pre .1 .1) _ _ _ (turn .before .loop .inv) (turn .loop-test .taken) _ _ _
     (called .before .before .before .number-at .ensures) (called .before .before .number-at2 .ensures) (called .before .number-at3 .ensures) _ _
     (called .site-line .ensures)
 

@@ -15,7 +15,9 @@ shared-slice-copy-out-result c = search needs
 cast-result : tie.Need-cast-result
 cast-result c =
     let start = c .before in
-    cast-number (getD (start .args .plane .now) (start .args .k) (pos 0)) (record { sfits = c .result .given }) (start .pre .0 .low (start .args .k)) (start .pre .0 .high (start .args .k))
+    let low = start .pre .0 .low (start .args .k) in
+    let high = start .pre .0 .high (start .args .k) in
+    cast-number (getD (start .args .plane .now) (start .args .k) (pos 0)) (record { sfits = c .result .given }) low high
 
 returns : tie.Need-returns
 returns c = search needs

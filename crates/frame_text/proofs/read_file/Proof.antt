@@ -10,6 +10,13 @@ use borrow.Author.Needs.{needs}
 use Rattle.frame_text.proofs.read_file.Statement.{statement}
 use Rattle.frame_text.proofs.read_file.Tie as tie
 
+-- read answered a frame of at most 1,024 samples
+small : (c : tie.After-shape) → c .shape .given .0 .0 .height * c .shape .given .0 .0 .width ≤ 1024
+small c =
+    let called = c .before .before .before .before in
+    let start = called .before .before .before .before .before in
+    few (start .args .file .now) (start .args .samples .now) (start .pre .0 .1) _ (sym (c .shape .given .1) ∙ called .read .ensures .0)
+
 read-requires : tie.Need-read-requires
 read-requires c κs = search needs
 
@@ -23,10 +30,10 @@ enum-known-shape : tie.Need-enum-known-shape
 enum-known-shape c = search needs
 
 mul-count : tie.Need-mul-count
-mul-count c = let small = few (c .before .before .before .before .before .before .before .before .before .before .before .args .file .now) (c .before .before .before .before .before .before .before .before .before .before .before .args .samples .now) (c .before .before .before .before .before .before .before .before .before .before .before .pre .0 .1) _ (sym (c .before .before .shape .given .1) ∙ c .before .before .before .before .before .before .read .ensures .0) in omega arith
+mul-count c = let h = small (c .before .before) in omega arith
 
 mul-size : tie.Need-mul-size
-mul-size c = let small = few (c .before .before .before .before .before .before .before .before .before .before .before .args .file .now) (c .before .before .before .before .before .before .before .before .before .before .before .args .samples .now) (c .before .before .before .before .before .before .before .before .before .before .before .pre .0 .1) _ (sym (c .before .before .shape .given .1) ∙ c .before .before .before .before .before .before .read .ensures .0) in omega arith
+mul-size c = let h = small (c .before .before) in omega arith
 
 sub-develop-frame : tie.Need-sub-develop-frame
 sub-develop-frame c = search needs
@@ -35,7 +42,7 @@ part-develop-frame-start : tie.Need-part-develop-frame-start
 part-develop-frame-start c = search needs
 
 part-develop-frame-end : tie.Need-part-develop-frame-end
-part-develop-frame-end c = let small = few (c .before .before .before .before .before .before .before .before .before .before .before .before .before .args .file .now) (c .before .before .before .before .before .before .before .before .before .before .before .before .before .args .samples .now) (c .before .before .before .before .before .before .before .before .before .before .before .before .before .pre .0 .1) _ (sym (c .before .before .before .before .shape .given .1) ∙ c .before .before .before .before .before .before .before .before .read .ensures .0) in search needs
+part-develop-frame-end c = let h = small (c .before .before .before .before) in search needs
 
 sub-develop-frame-2 : tie.Need-sub-develop-frame-2
 sub-develop-frame-2 c = search needs
@@ -44,7 +51,7 @@ part-develop-frame-start-2 : tie.Need-part-develop-frame-start-2
 part-develop-frame-start-2 c = search needs
 
 part-develop-frame-end-2 : tie.Need-part-develop-frame-end-2
-part-develop-frame-end-2 c = let small = few (c .before .before .before .before .before .before .before .before .before .before .before .before .before .before .args .file .now) (c .before .before .before .before .before .before .before .before .before .before .before .before .before .before .args .samples .now) (c .before .before .before .before .before .before .before .before .before .before .before .before .before .before .pre .0 .1) _ (sym (c .before .before .before .before .before .shape .given .1) ∙ c .before .before .before .before .before .before .before .before .before .read .ensures .0) in search needs
+part-develop-frame-end-2 c = let h = small (c .before .before .before .before .before) in search needs
 
 sub-develop-frame-3 : tie.Need-sub-develop-frame-3
 sub-develop-frame-3 c = search needs
@@ -53,7 +60,7 @@ part-develop-frame-start-3 : tie.Need-part-develop-frame-start-3
 part-develop-frame-start-3 c = search needs
 
 part-develop-frame-end-3 : tie.Need-part-develop-frame-end-3
-part-develop-frame-end-3 c = let small = few (c .before .before .before .before .before .before .before .before .before .before .before .before .before .before .before .args .file .now) (c .before .before .before .before .before .before .before .before .before .before .before .before .before .before .before .args .samples .now) (c .before .before .before .before .before .before .before .before .before .before .before .before .before .before .before .pre .0 .1) _ (sym (c .before .before .before .before .before .before .shape .given .1) ∙ c .before .before .before .before .before .before .before .before .before .before .read .ensures .0) in search needs
+part-develop-frame-end-3 c = let h = small (c .before .before .before .before .before .before) in search needs
 
 sub-develop-frame-4 : tie.Need-sub-develop-frame-4
 sub-develop-frame-4 c = search needs
@@ -62,7 +69,7 @@ part-develop-frame-start-4 : tie.Need-part-develop-frame-start-4
 part-develop-frame-start-4 c = search needs
 
 part-develop-frame-end-4 : tie.Need-part-develop-frame-end-4
-part-develop-frame-end-4 c = let small = few (c .before .before .before .before .before .before .before .before .before .before .before .before .before .before .before .before .args .file .now) (c .before .before .before .before .before .before .before .before .before .before .before .before .before .before .before .before .args .samples .now) (c .before .before .before .before .before .before .before .before .before .before .before .before .before .before .before .before .pre .0 .1) _ (sym (c .before .before .before .before .before .before .before .shape .given .1) ∙ c .before .before .before .before .before .before .before .before .before .before .before .read .ensures .0) in search needs
+part-develop-frame-end-4 c = let h = small (c .before .before .before .before .before .before .before) in search needs
 
 sub-develop-frame-5 : tie.Need-sub-develop-frame-5
 sub-develop-frame-5 c = search needs
@@ -71,7 +78,7 @@ part-develop-frame-start-5 : tie.Need-part-develop-frame-start-5
 part-develop-frame-start-5 c = search needs
 
 part-develop-frame-end-5 : tie.Need-part-develop-frame-end-5
-part-develop-frame-end-5 c = let small = few (c .before .before .before .before .before .before .before .before .before .before .before .before .before .before .before .before .before .args .file .now) (c .before .before .before .before .before .before .before .before .before .before .before .before .before .before .before .before .before .args .samples .now) (c .before .before .before .before .before .before .before .before .before .before .before .before .before .before .before .before .before .pre .0 .1) _ (sym (c .before .before .before .before .before .before .before .before .shape .given .1) ∙ c .before .before .before .before .before .before .before .before .before .before .before .before .read .ensures .0) in search needs
+part-develop-frame-end-5 c = let h = small (c .before .before .before .before .before .before .before .before) in search needs
 
 sub-develop-frame-6 : tie.Need-sub-develop-frame-6
 sub-develop-frame-6 c = search needs
@@ -80,7 +87,7 @@ part-develop-frame-start-6 : tie.Need-part-develop-frame-start-6
 part-develop-frame-start-6 c = search needs
 
 part-develop-frame-end-6 : tie.Need-part-develop-frame-end-6
-part-develop-frame-end-6 c = let small = few (c .before .before .before .before .before .before .before .before .before .before .before .before .before .before .before .before .before .before .args .file .now) (c .before .before .before .before .before .before .before .before .before .before .before .before .before .before .before .before .before .before .args .samples .now) (c .before .before .before .before .before .before .before .before .before .before .before .before .before .before .before .before .before .before .pre .0 .1) _ (sym (c .before .before .before .before .before .before .before .before .before .shape .given .1) ∙ c .before .before .before .before .before .before .before .before .before .before .before .before .before .read .ensures .0) in search needs
+part-develop-frame-end-6 c = let h = small (c .before .before .before .before .before .before .before .before .before) in search needs
 
 sub-develop-frame-7 : tie.Need-sub-develop-frame-7
 sub-develop-frame-7 c = search needs
@@ -89,7 +96,7 @@ part-develop-frame-start-7 : tie.Need-part-develop-frame-start-7
 part-develop-frame-start-7 c = search needs
 
 part-develop-frame-end-7 : tie.Need-part-develop-frame-end-7
-part-develop-frame-end-7 c = let small = few (c .before .before .before .before .before .before .before .before .before .before .before .before .before .before .before .before .before .before .before .args .file .now) (c .before .before .before .before .before .before .before .before .before .before .before .before .before .before .before .before .before .before .before .args .samples .now) (c .before .before .before .before .before .before .before .before .before .before .before .before .before .before .before .before .before .before .before .pre .0 .1) _ (sym (c .before .before .before .before .before .before .before .before .before .before .shape .given .1) ∙ c .before .before .before .before .before .before .before .before .before .before .before .before .before .before .read .ensures .0) in search needs
+part-develop-frame-end-7 c = let h = small (c .before .before .before .before .before .before .before .before .before .before) in search needs
 
 sub-develop-frame-8 : tie.Need-sub-develop-frame-8
 sub-develop-frame-8 c = search needs
@@ -98,13 +105,13 @@ part-develop-frame-start-8 : tie.Need-part-develop-frame-start-8
 part-develop-frame-start-8 c = search needs
 
 part-develop-frame-end-8 : tie.Need-part-develop-frame-end-8
-part-develop-frame-end-8 c = let small = few (c .before .before .before .before .before .before .before .before .before .before .before .before .before .before .before .before .before .before .before .before .args .file .now) (c .before .before .before .before .before .before .before .before .before .before .before .before .before .before .before .before .before .before .before .before .args .samples .now) (c .before .before .before .before .before .before .before .before .before .before .before .before .before .before .before .before .before .before .before .before .pre .0 .1) _ (sym (c .before .before .before .before .before .before .before .before .before .before .before .shape .given .1) ∙ c .before .before .before .before .before .before .before .before .before .before .before .before .before .before .before .read .ensures .0) in search needs
+part-develop-frame-end-8 c = let h = small (c .before .before .before .before .before .before .before .before .before .before .before) in search needs
 
 develop-frame-requires : tie.Need-develop-frame-requires
 develop-frame-requires c κs =
-    let small = few (c .before .before .before .before .before .before .before .before .before .before .before .before .before .before .before .before .before .before .before .before .before .args .file .now) (c .before .before .before .before .before .before .before .before .before .before .before .before .before .before .before .before .before .before .before .before .before .args .samples .now) (c .before .before .before .before .before .before .before .before .before .before .before .before .before .before .before .before .before .before .before .before .before .pre .0 .1) _ (sym (c .before .before .before .before .before .before .before .before .before .before .before .before .shape .given .1) ∙ c .before .before .before .before .before .before .before .before .before .before .before .before .before .before .before .before .read .ensures .0) in
-    let start = c .before .before .before .before .before .before .before .before .before .before .before .before .before .before .before .before .before .before .before .before .before in
-    ((small, start .pre .0 .0), parts-lent _ small (start .pre .1))
+    let read = c .before .before .before .before .before .before .before .before .before .before .before .before in
+    let start = read .before .before .before .before .before .before .before .before .before in
+    ((small read, start .pre .0 .0), parts-lent _ (small read) (start .pre .1))
 
 same-length : tie.Need-same-length
 same-length c = search needs
@@ -114,14 +121,22 @@ same-length-2 c = search needs
 
 returns : tie.Need-returns
 returns c =
-    let start = c .before .before .before .before .before .before .before .before .before .before .before .before .before .before in
-    put-as (refusal-printed (start .args .file .now) (start .args .samples .now) (start .pre .0 .1) _ (sym (c .before .before .before .before .before .why .given .1) ∙ c .before .before .before .before .before .before .before .before .before .read .ensures .0)) (c .before .before .refusal .ensures)
+    let matched = c .before .before .before .before .before in
+    let called = matched .before .before .before .before in
+    let start = called .before .before .before .before .before in
+    put-as
+    (refusal-printed (start .args .file .now) (start .args .samples .now) (start .pre .0 .1) _
+    (sym (matched .why .given .1) ∙ called .read .ensures .0))
+    (c .before .before .refusal .ensures)
 
 same-length-3 : tie.Need-same-length-3
 same-length-3 c = search needs
 
 same-length-4 : tie.Need-same-length-4
-same-length-4 c = c .before .before .before .before .before .before .before .before .before .before .before .before .before .before .before .before .before .before .before .before .before .before .before .before .before .before .read .kept .1 .0
+same-length-4 c =
+    let developed = c .before .before .before .before .before .before .before .before .before in
+    let matched = developed .before .before .before .before .before .before .before .before .before .before .before .before .before in
+    matched .before .before .before .before .read .kept .1 .0
 
 same-length-5 : tie.Need-same-length-5
 same-length-5 c = c .before .before .before .before .before .before .red .given .1
@@ -146,9 +161,14 @@ same-length-11 c = search needs
 
 returns-2 : tie.Need-returns-2
 returns-2 c =
-    let start = c .before .before .before .before .before .before .before .before .before .before .before .before .before .before .before .before .before .before .before .before .before .before .before .before .before .before .before .before .before .before .before in
-    put-as (frame-printed (start .args .file .now) (start .args .samples .now) (start .pre .0 .1) _ _ (sym (c .before .before .before .before .before .before .before .before .before .before .before .before .before .before .before .before .before .before .before .before .before .before .shape .given .1) ∙ c .before .before .before .before .before .before .before .before .before .before .before .before .before .before .before .before .before .before .before .before .before .before .before .before .before .before .read .ensures .0) (c .before .before .before .before .before .before .before .before .before .before .before .before .before .before .before .before .before .before .before .before .before .before .before .before .before .before .read .ensures .1))
-    (c .before .before .before .before .before .before .before .before .before .develop-frame .ensures)
+    let developed = c .before .before .before .before .before .before .before .before .before in
+    let matched = developed .before .before .before .before .before .before .before .before .before .before .before .before .before in
+    let called = matched .before .before .before .before in
+    let start = called .before .before .before .before .before in
+    put-as
+    (frame-printed (start .args .file .now) (start .args .samples .now) (start .pre .0 .1) _ _
+    (sym (matched .shape .given .1) ∙ called .read .ensures .0) (called .read .ensures .1))
+    (developed .develop-frame .ensures)
 
 pub read-file-spec : {M : Type 1} → statement M
 read-file-spec =

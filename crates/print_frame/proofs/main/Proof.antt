@@ -27,7 +27,7 @@ array-share-prefix-text : tie.Need-array-share-prefix-text
 array-share-prefix-text c = search needs
 
 slice-aggregate-write-all : tie.Need-slice-aggregate-write-all
-slice-aggregate-write-all c = let called = c .before .before .compose in sym (length-take-le _ _ (called .ensures .1))
+slice-aggregate-write-all c = let called = c .before .before .compose in sym (length-take-le _ _ (called .ensures .inside))
 
 write-all-requires : tie.Need-write-all-requires
 write-all-requires c κs = search needs

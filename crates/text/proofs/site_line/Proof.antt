@@ -8,27 +8,87 @@ use Rattle.text.proofs.site_line.Tie as tie
 number-then-requires : tie.Need-number-then-requires
 number-then-requires c κs =
     let start = c .before .before in
-    omega (arith, start .pre, length-five (start .args .row) (start .args .column) (start .args .red) (start .args .green) (start .args .blue))
+    omega (
+      arith,
+      start .pre,
+      length-five (start .args .row) (start .args .column) (start .args .red) (start .args .green) (start .args .blue),
+    )
 
 number-then-requires-2 : tie.Need-number-then-requires-2
 number-then-requires-2 c κs =
-    let start = c .before .before .before .before .before .before in
-    omega (arith, start .pre, length-five (start .args .row) (start .args .column) (start .args .red) (start .args .green) (start .args .blue), c .before .before .before .number-then .ensures .behind, c .before .before .before .number-then .kept .0, length-ended (start .args .row) 32)
+    let first = c .before .before .before in
+    let start = first .before .before .before in
+    omega (
+      arith,
+      start .pre,
+      length-five (start .args .row) (start .args .column) (start .args .red) (start .args .green) (start .args .blue),
+      first .number-then .ensures .behind,
+      first .number-then .kept .0,
+      length-ended (start .args .row) 32,
+    )
 
 number-then-requires-3 : tie.Need-number-then-requires-3
 number-then-requires-3 c κs =
-    let start = c .before .before .before .before .before .before .before .before .before .before in
-    omega (arith, start .pre, length-five (start .args .row) (start .args .column) (start .args .red) (start .args .green) (start .args .blue), c .before .before .before .before .before .before .before .number-then .ensures .behind, c .before .before .before .before .before .before .before .number-then .kept .0, length-ended (start .args .row) 32, c .before .before .before .number-then2 .ensures .behind, c .before .before .before .number-then2 .kept .0, length-ended (start .args .column) 32)
+    let second = c .before .before .before in
+    let first = second .before .before .before .before in
+    let start = first .before .before .before in
+    omega (
+      arith,
+      start .pre,
+      length-five (start .args .row) (start .args .column) (start .args .red) (start .args .green) (start .args .blue),
+      first .number-then .ensures .behind,
+      first .number-then .kept .0,
+      length-ended (start .args .row) 32,
+      second .number-then2 .ensures .behind,
+      second .number-then2 .kept .0,
+      length-ended (start .args .column) 32,
+    )
 
 number-then-requires-4 : tie.Need-number-then-requires-4
 number-then-requires-4 c κs =
-    let start = c .before .before .before .before .before .before .before .before .before .before .before .before .before .before in
-    omega (arith, start .pre, length-five (start .args .row) (start .args .column) (start .args .red) (start .args .green) (start .args .blue), c .before .before .before .before .before .before .before .before .before .before .before .number-then .ensures .behind, c .before .before .before .before .before .before .before .before .before .before .before .number-then .kept .0, length-ended (start .args .row) 32, c .before .before .before .before .before .before .before .number-then2 .ensures .behind, c .before .before .before .before .before .before .before .number-then2 .kept .0, length-ended (start .args .column) 32, c .before .before .before .number-then3 .ensures .behind, c .before .before .before .number-then3 .kept .0, length-ended (start .args .red) 32)
+    let third = c .before .before .before in
+    let second = third .before .before .before .before in
+    let first = second .before .before .before .before in
+    let start = first .before .before .before in
+    omega (
+      arith,
+      start .pre,
+      length-five (start .args .row) (start .args .column) (start .args .red) (start .args .green) (start .args .blue),
+      first .number-then .ensures .behind,
+      first .number-then .kept .0,
+      length-ended (start .args .row) 32,
+      second .number-then2 .ensures .behind,
+      second .number-then2 .kept .0,
+      length-ended (start .args .column) 32,
+      third .number-then3 .ensures .behind,
+      third .number-then3 .kept .0,
+      length-ended (start .args .red) 32,
+    )
 
 number-then-requires-5 : tie.Need-number-then-requires-5
 number-then-requires-5 c κs =
-    let start = c .before .before .before .before .before .before .before .before .before .before .before .before .before .before .before .before .before .before in
-    omega (arith, start .pre, length-five (start .args .row) (start .args .column) (start .args .red) (start .args .green) (start .args .blue), c .before .before .before .before .before .before .before .before .before .before .before .before .before .before .before .number-then .ensures .behind, c .before .before .before .before .before .before .before .before .before .before .before .before .before .before .before .number-then .kept .0, length-ended (start .args .row) 32, c .before .before .before .before .before .before .before .before .before .before .before .number-then2 .ensures .behind, c .before .before .before .before .before .before .before .before .before .before .before .number-then2 .kept .0, length-ended (start .args .column) 32, c .before .before .before .before .before .before .before .number-then3 .ensures .behind, c .before .before .before .before .before .before .before .number-then3 .kept .0, length-ended (start .args .red) 32, c .before .before .before .number-then4 .ensures .behind, c .before .before .before .number-then4 .kept .0, length-ended (start .args .green) 32)
+    let fourth = c .before .before .before in
+    let third = fourth .before .before .before .before in
+    let second = third .before .before .before .before in
+    let first = second .before .before .before .before in
+    let start = first .before .before .before in
+    omega (
+      arith,
+      start .pre,
+      length-five (start .args .row) (start .args .column) (start .args .red) (start .args .green) (start .args .blue),
+      first .number-then .ensures .behind,
+      first .number-then .kept .0,
+      length-ended (start .args .row) 32,
+      second .number-then2 .ensures .behind,
+      second .number-then2 .kept .0,
+      length-ended (start .args .column) 32,
+      third .number-then3 .ensures .behind,
+      third .number-then3 .kept .0,
+      length-ended (start .args .red) 32,
+      fourth .number-then4 .ensures .behind,
+      fourth .number-then4 .kept .0,
+      length-ended (start .args .green) 32,
+    )
 
 same-length : tie.Need-same-length
 same-length c = search needs

@@ -87,9 +87,7 @@ fn refusals() -> Vec<(String, Vec<u8>)> {
         ("refused_10_block_1", with_byte(good(), 1, 504, 255)),
         ("refused_10_sample", with_byte(good(), 2, 503, 64)),
     ];
-    cases
-        .map(|(name, file)| (name.to_string(), file))
-        .to_vec()
+    cases.map(|(name, file)| (name.to_string(), file)).to_vec()
 }
 
 /// Frames of many sizes, phases and kinds.
@@ -112,7 +110,11 @@ fn frames() -> Vec<(String, Vec<u8>)> {
     let kinds = ["noise", "extremes", "ramp", "edge", "grey", "flat"];
     let mut files = Vec::new();
     for (turn, (width, height)) in sides.into_iter().enumerate() {
-        let phases = if width * height <= 64 { 0..4 } else { turn % 4..turn % 4 + 1 };
+        let phases = if width * height <= 64 {
+            0..4
+        } else {
+            turn % 4..turn % 4 + 1
+        };
         for phase in phases {
             let kind = kinds[(turn + phase) % kinds.len()];
             let name = format!("frame_{width}x{height}_phase_{phase}_{kind}");
