@@ -65,18 +65,11 @@ impl Group {
                 r#"<rect x="{x:.1}" y="{y:.1}" width="{width:.0}" height="{height:.1}" fill="{colour}"/>"#
             );
             let _ = writeln!(svg, "{bar}");
-            let digits = usize::from(value < 10.0);
-            text(
-                svg,
-                x + width / 2.0,
-                y - 4.0,
-                "middle",
-                10,
-                &format!("{value:.digits$}"),
-            );
+            let number = format!("{value:.1}");
+            text(svg, x + width / 2.0, y - 4.0, "middle", 9, &number);
         }
         let middle = left + self.bars.len() as f64 * BAR / 2.0;
-        text(svg, middle, TOP + HEIGHT + 18.0, "middle", 12, &self.label);
+        text(svg, middle, TOP + HEIGHT + 18.0, "middle", 11, &self.label);
     }
 }
 

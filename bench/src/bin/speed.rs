@@ -3,7 +3,8 @@
 //! and on every texture at least 1.5 times the plain version's figure for noise.
 
 use bench::measures::{
-    develop_speeds, file_speeds, site_costs, together, Spread, OPTIMISED, PLAIN, PROVED, VERSIONS,
+    develop_speeds, file_speeds, site_costs, structure_costs, together, Spread, OPTIMISED, PLAIN,
+    PROVED, STRUCTURES, VERSIONS,
 };
 use bench::picture::{drawn, Chart, Group};
 use bench::textures::TEXTURES;
@@ -88,6 +89,14 @@ fn develop_tables() -> Speeds {
     speeds
 }
 
+fn structure_table() {
+    let costs = TEXTURES.map(|texture| structure_costs(texture, SIDE, RUNS));
+    head("ns a site", &textures());
+    for (structure, name) in STRUCTURES.iter().enumerate() {
+        row(name, &costs.map(|costs| format!("{:.1}", costs[structure])));
+    }
+}
+
 fn file_table() {
     head("MB/s", &["best / median / worst".to_string()]);
     let [write, read] = file_speeds(SIDE, RUNS);
@@ -160,6 +169,7 @@ fn picture(speeds: &Speeds, costs: &[[f64; 2]]) -> String {
 fn main() -> ExitCode {
     println!("{SIDE} x {SIDE}, phase 0, {RUNS} runs, {LITERAL_RUNS} of the literal version");
     let speeds = develop_tables();
+    structure_table();
     file_table();
     let costs = growth_table();
     threads_table();

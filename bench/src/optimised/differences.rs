@@ -16,12 +16,9 @@ fn weighted_mean<const LIFT: i32>(values: [i16; 4], gradients: [u32; 4]) -> i32 
     let [e, w, s, n] = gradients.map(u64::from);
     let (p, q) = (e * w, s * n);
     let weights = (e + w) * q + (s + n) * p;
-    let mean = if weights == 0 {
-        mean_at_zeros(lifted, gradients)
-    } else {
-        let sum = (lifted[0] * w + lifted[1] * e) * q + (lifted[2] * n + lifted[3] * s) * p;
-        (sum + weights / 2) / weights
-    };
+    let sum = (lifted[0] * w + lifted[1] * e) * q + (lifted[2] * n + lifted[3] * s) * p;
+    let quotient = (sum + weights / 2).checked_div(weights);
+    let mean = quotient.unwrap_or_else(|| mean_at_zeros(lifted, gradients));
     mean as i32 - LIFT
 }
 

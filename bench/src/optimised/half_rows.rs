@@ -1,10 +1,8 @@
-//! Rings of half rows. A half row holds every second column of a row: entry MARGIN + k of the half of parity p is column 2·k + p. On each
+//! Half rows, kept in rings of rows. A half row holds every second column of a row: entry MARGIN + k of the half of parity p is column 2·k + p. On each
 //! side of the frame's columns stand MARGIN reflected ones.
 
 use crate::sites::reflected;
 
-/// Rows that a ring holds. The sweep reads no row that lies further back.
-const RING: usize = 16;
 pub const MARGIN: usize = 4;
 
 /// How many columns of a row have the parity.
@@ -30,23 +28,26 @@ pub fn part_mut<T>(half: &mut [T], first: isize, count: usize) -> &mut [T] {
 
 pub struct HalfRows<T> {
     width: usize,
+    /// Rows that the ring holds.
+    kept: usize,
     /// Entries of a half row.
     length: usize,
     entries: Vec<T>,
 }
 
 impl<T: Copy + Default> HalfRows<T> {
-    pub fn new(width: usize) -> Self {
+    pub fn new(width: usize, kept: usize) -> Self {
         let length = columns(width, 0) + 2 * MARGIN;
         HalfRows {
             width,
+            kept,
             length,
-            entries: vec![T::default(); 2 * RING * length],
+            entries: vec![T::default(); 2 * kept * length],
         }
     }
 
     fn start(&self, row: isize, parity: usize) -> usize {
-        (row as usize % RING * 2 + parity) * self.length
+        (row.rem_euclid(self.kept as isize) as usize * 2 + parity) * self.length
     }
 
     pub fn half(&self, row: isize, parity: usize) -> &[T] {

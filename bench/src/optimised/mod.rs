@@ -1,6 +1,7 @@
 //! The method as one optimises it without proofs: one sweep over the rows, every number held in half rows with reflected margins, in rings
 //! of a few rows that stay in the cache, 16 bits wide where the numbers fit; E and S formed once; loops over unit strides without a branch,
-//! but for the weighted means, which divide.
+//! but for the weighted means, which divide. Each such loop is a function of its own and not inlined, so that the compiler knows that what
+//! it fills overlaps nothing that it reads.
 
 mod differences;
 mod gradients;
@@ -11,6 +12,18 @@ mod stages;
 use crate::sites::Sites;
 use gradients::Gradients;
 use half_rows::{half_row, HalfRows};
+
+/// Rows that a ring holds: the sweep reads none that lies further back.
+const RING: usize = 16;
+
+/// What the sweep spares. Without them it does as the proved one.
+#[derive(Clone, Copy)]
+pub struct Savings {
+    /// Rows are kept in rings that stay in the cache, and not all rows of the frame.
+    pub rings: bool,
+    /// A row of the mosaic is loaded once and its a formed once, and not for each row that reads them.
+    pub loads_once: bool,
+}
 
 /// How many rows each stage lies behind the row that is loaded.
 const FIRST: isize = 4;
@@ -23,6 +36,7 @@ const OUT: isize = 14;
 pub struct Optimised {
     width: usize,
     height: usize,
+    savings: Savings,
     samples: HalfRows<u16>,
     gradients: Gradients,
     /// r_H, r_V and r_D
@@ -40,17 +54,27 @@ pub struct Optimised {
 
 impl Optimised {
     pub fn new(width: usize, height: usize) -> Self {
+        let savings = Savings {
+            rings: true,
+            loads_once: true,
+        };
+        Optimised::with(savings, width, height)
+    }
+
+    pub fn with(savings: Savings, width: usize, height: usize) -> Self {
+        let kept = if savings.rings { RING } else { height + RING };
         Optimised {
             width,
             height,
-            samples: HalfRows::new(width),
-            gradients: Gradients::new(width),
-            across: HalfRows::new(width),
-            down: HalfRows::new(width),
-            both: HalfRows::new(width),
-            differences: HalfRows::new(width),
-            own: HalfRows::new(width),
-            other: HalfRows::new(width),
+            savings,
+            samples: HalfRows::new(width, kept),
+            gradients: Gradients::new(width, kept),
+            across: HalfRows::new(width, kept),
+            down: HalfRows::new(width, kept),
+            both: HalfRows::new(width, kept),
+            differences: HalfRows::new(width, kept),
+            own: HalfRows::new(width, kept),
+            other: HalfRows::new(width, kept),
             filled: [(); 4].map(|()| half_row(width)),
         }
     }
@@ -68,8 +92,12 @@ impl Optimised {
             let due = |behind: isize| Some(step - behind).filter(|row| (0..height).contains(row));
             if let Some(row) = due(0) {
                 self.load(row, &mosaic[sites.of_row(row)]);
+                self.gradients.form_pairs(&self.samples, row);
             }
             if let Some(row) = due(FIRST) {
+                if !self.savings.loads_once {
+                    self.load_around(sites, row, mosaic);
+                }
                 self.gradients.form(sites, &self.samples, row);
                 self.run_first_pass(sites, row);
             }

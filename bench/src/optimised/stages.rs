@@ -35,7 +35,7 @@ fn weave_sites<C: Copy + Into<i32>, G: Copy + Into<i32>>(
 }
 
 impl Optimised {
-    /// Splits a row of the mosaic and forms a of it.
+    /// Splits a row of the mosaic.
     pub(super) fn load(&mut self, row: isize, mosaic: &[u16]) {
         let (even, odd) = self.samples.row_mut(row);
         let pairs = mosaic.len() / 2;
@@ -49,7 +49,16 @@ impl Optimised {
         }
         self.samples.reflect(row, 0);
         self.samples.reflect(row, 1);
-        self.gradients.form_pairs(&self.samples, row);
+    }
+
+    /// Loads again all rows that E and S of a row need, and forms a of three of them.
+    pub(super) fn load_around(&mut self, sites: Sites, row: isize, mosaic: &[u16]) {
+        for row in (row - 2..=row + 4).map(|row| sites.reflected_row(row)) {
+            self.load(row, &mosaic[sites.of_row(row)]);
+        }
+        for row in (row - 1..=row + 1).map(|row| sites.reflected_row(row)) {
+            self.gradients.form_pairs(&self.samples, row);
+        }
     }
 
     pub(super) fn run_first_pass(&mut self, sites: Sites, row: isize) {
