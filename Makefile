@@ -1,7 +1,7 @@
 # make run      develops the document's example frame by the proved program and prints it; make run FRAME=path, any frame file
 #               (the first time the program's crates are proved, which takes minutes)
 # make test     proves every crate and passes the tests; its last line is 'N passed, M failed'
-# make bench    times the proved library beside the plain version, in bench/
+# make bench    times the proved library beside the versions of bench/, in some minutes, and writes docs/performance.svg
 # make tool     builds the command-line tool, build/tool/release/bayer-tool
 # make turned   develops the built-in glaze before and after the list CHANGES, by the library and by the old way
 # make soak     CALLS random and damaged calls of every export, against the independent implementation; SEED and FROM repeat them
@@ -22,7 +22,7 @@ test:
 	@tests/run
 
 bench: lib
-	@CARGO_TARGET_DIR=build/bench cargo run --quiet --release --manifest-path bench/Cargo.toml --bin speed
+	@CARGO_TARGET_DIR=build/bench cargo run --quiet --release --manifest-path bench/Cargo.toml --bin speed -- docs/performance.svg
 
 tool: build/lib/libbayer.so
 	@CARGO_TARGET_DIR=build/tool cargo build --quiet --release --manifest-path tools/bayer-tool/Cargo.toml

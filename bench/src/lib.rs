@@ -1,10 +1,10 @@
-//! What the proved library is timed against: the same method as a plain scalar program. There is a pass over the frame for each step,
-//! each gradient is formed once, no loop over sites reflects a position, and a weighted mean takes one division.
+//! What the proved library is timed against: the same method as a plain scalar program, and optimised as one does without proofs.
 
 pub mod clock;
-mod gradients;
-mod green;
-mod mean;
+pub mod measures;
+pub mod optimised;
+pub mod picture;
 pub mod plain;
-mod plane;
+mod sites;
 pub mod textures;
+pub mod versions;

@@ -1,86 +1,184 @@
-//! Times the proved develop beside the plain version: 2,048 by 2,048, four textures, one core, in turns in one process, the best of
-//! nine. The exit status is 0 where the proved one has at least 1.9 times the plain one's speed on noise, and on every texture at
-//! least 1.5 times the plain one's figure for noise.
+//! Times the proved library beside the other versions and prints tables; docs/PERFORMANCE.md tells what each number is. With a path it
+//! also writes a picture there. The exit status is 0 where the proved develop has at least 1.9 times the plain version's speed on noise,
+//! and on every texture at least 1.5 times the plain version's figure for noise.
 
-use bench::clock::core_time;
-use bench::plain::Plain;
-use bench::textures::{Texture, TEXTURES};
+use bench::measures::{
+    develop_speeds, file_speeds, site_costs, structure_costs, together, Spread, OPTIMISED, PLAIN,
+    PROVED, STRUCTURES, VERSIONS,
+};
+use bench::picture::{drawn, Chart, Group};
+use bench::textures::TEXTURES;
 use std::process::ExitCode;
 
 const SIDE: usize = 2048;
-const TURNS: usize = 9;
+const RUNS: usize = 11;
+const LITERAL_RUNS: usize = 3;
 
-/// Three planes.
-type Planes = [Vec<i32>; 3];
+/// Width and height of the frames that show how the cost grows.
+const SIZES: [(usize, usize); 8] = [
+    (64, 64),
+    (256, 256),
+    (512, 512),
+    (1024, 1024),
+    (2048, 2048),
+    (4096, 4096),
+    (16, 4096),
+    (4096, 16),
+];
 
-/// Megapixels a second.
-#[derive(Clone, Copy)]
-struct Speeds {
-    proved: f64,
-    plain: f64,
+/// For each texture the speeds of the versions.
+type Speeds = [[Spread; 4]; 4];
+
+fn head(title: &str, columns: &[String]) {
+    println!("\n| {title} | {} |", columns.join(" | "));
+    println!("|---{}|", "|---".repeat(columns.len()));
 }
 
-fn planes() -> Planes {
-    [(); 3].map(|()| vec![-1; SIDE * SIDE])
+fn row(name: &str, cells: &[String]) {
+    println!("| {name} | {} |", cells.join(" | "));
 }
 
-fn develop_proved(mosaic: &[u16], [red, green, blue]: &mut Planes, work: &mut [i32]) {
-    let answer = compare::develop(SIDE, SIDE, 0, mosaic, red, green, blue, work);
-    assert_eq!(answer, Ok(()));
+fn textures() -> [String; 4] {
+    TEXTURES.map(|texture| format!("{texture:?}").to_lowercase())
 }
 
-fn develop_plain(plain: &mut Plain, mosaic: &[u16], [red, green, blue]: &mut Planes) {
-    plain.develop(0, mosaic, [red, green, blue]);
+fn spread(spread: Spread, digits: usize) -> String {
+    let Spread {
+        best,
+        median,
+        worst,
+    } = spread;
+    format!("{best:.digits$} / {median:.digits$} / {worst:.digits$}")
 }
 
-/// The speed of one call.
-fn timed(call: impl FnOnce()) -> f64 {
-    let start = core_time();
-    call();
-    (SIDE * SIDE) as f64 / (core_time() - start) / 1e6
+fn ratios(name: &str, of_texture: impl Fn(usize) -> f64) {
+    row(
+        name,
+        &[0, 1, 2, 3].map(|texture| format!("{:.2}", of_texture(texture))),
+    );
 }
 
-fn measure(texture: Texture) -> Speeds {
-    let mosaic = texture.mosaic(SIDE, SIDE);
-    let (mut proved_planes, mut plain_planes) = (planes(), planes());
-    let mut work = vec![-1; 4 * SIDE * SIDE];
-    let mut plain = Plain::new(SIDE, SIDE);
-    let mut best = Speeds {
-        proved: 0.0,
-        plain: 0.0,
-    };
-    for _ in 0..TURNS {
-        let proved = timed(|| develop_proved(&mosaic, &mut proved_planes, &mut work));
-        let plain = timed(|| develop_plain(&mut plain, &mosaic, &mut plain_planes));
-        best.proved = best.proved.max(proved);
-        best.plain = best.plain.max(plain);
+fn develop_tables() -> Speeds {
+    let speeds = TEXTURES.map(|texture| develop_speeds(texture, SIDE, RUNS, LITERAL_RUNS));
+    head("MP/s: best / median / worst", &textures());
+    for (version, name) in VERSIONS.iter().enumerate() {
+        let digits = if version > PLAIN { 2 } else { 1 };
+        row(
+            name,
+            &speeds.map(|versions| spread(versions[version], digits)),
+        );
     }
-    assert!(proved_planes == plain_planes, "{texture:?}");
-    best
+    head("ratio", &textures());
+    let best = |version: usize, texture: usize| speeds[texture][version].best;
+    let median = |version: usize, texture: usize| speeds[texture][version].median;
+    ratios("proved / optimised", |texture| {
+        best(PROVED, texture) / best(OPTIMISED, texture)
+    });
+    ratios("the same of the medians", |texture| {
+        median(PROVED, texture) / median(OPTIMISED, texture)
+    });
+    ratios("proved / plain", |texture| {
+        best(PROVED, texture) / best(PLAIN, texture)
+    });
+    ratios("optimised / plain", |texture| {
+        best(OPTIMISED, texture) / best(PLAIN, texture)
+    });
+    ratios("proved / plain on noise", |texture| {
+        best(PROVED, texture) / best(PLAIN, 0)
+    });
+    speeds
 }
 
-fn line(name: &str, numbers: [f64; 4]) {
-    let [noise, smooth, glaze, flat] = numbers;
-    println!("{name:<24} {noise:>7.2} {smooth:>7.2} {glaze:>7.2} {flat:>7.2}");
+fn structure_table() {
+    let costs = TEXTURES.map(|texture| structure_costs(texture, SIDE, RUNS));
+    head("ns a site", &textures());
+    for (structure, name) in STRUCTURES.iter().enumerate() {
+        row(name, &costs.map(|costs| format!("{:.1}", costs[structure])));
+    }
+}
+
+fn file_table() {
+    head("MB/s", &["best / median / worst".to_string()]);
+    let [write, read] = file_speeds(SIDE, RUNS);
+    row("write", &[spread(write, 0)]);
+    row("read", &[spread(read, 0)]);
+}
+
+/// Returns the costs of the proved and the optimised version for each size.
+fn growth_table() -> Vec<[f64; 2]> {
+    let costs: Vec<_> = SIZES
+        .iter()
+        .map(|&(width, height)| site_costs(width, height))
+        .collect();
+    let names: Vec<_> = SIZES
+        .iter()
+        .map(|(width, height)| format!("{width} x {height}"))
+        .collect();
+    head("ns a site, W x H", &names);
+    for (version, name) in VERSIONS.iter().take(2).enumerate() {
+        let cells: Vec<_> = costs
+            .iter()
+            .map(|costs| format!("{:.1}", costs[version]))
+            .collect();
+        row(name, &cells);
+    }
+    costs
+}
+
+fn threads_table() {
+    let most = std::thread::available_parallelism().map_or(1, usize::from);
+    head(
+        "MP/s of threads together",
+        &["wall clock".to_string(), "core time".to_string()],
+    );
+    for threads in 1..=most {
+        let speed = together(threads, SIDE, RUNS);
+        let cells = [speed.wall, speed.cores].map(|speed| format!("{speed:.1}"));
+        row(&threads.to_string(), &cells);
+    }
+}
+
+fn picture(speeds: &Speeds, costs: &[[f64; 2]]) -> String {
+    let by_texture = speeds
+        .iter()
+        .zip(textures())
+        .map(|(versions, label)| Group {
+            label,
+            bars: versions.iter().map(|spread| spread.best).collect(),
+        });
+    let by_size = SIZES
+        .iter()
+        .zip(costs)
+        .map(|((width, height), costs)| Group {
+            label: format!("{width}x{height}"),
+            bars: costs.to_vec(),
+        });
+    let charts = [
+        Chart {
+            title: format!("develop, {SIDE} x {SIDE}: megapixels a second, best of {RUNS}"),
+            groups: by_texture.collect(),
+        },
+        Chart {
+            title: "noise: nanoseconds a site, by W x H".to_string(),
+            groups: by_size.collect(),
+        },
+    ];
+    drawn(&charts, &VERSIONS)
 }
 
 fn main() -> ExitCode {
-    let speeds = TEXTURES.map(measure);
-    let on_noise = speeds[0].plain;
-    println!("{SIDE} x {SIDE}, one core, best of {TURNS}, megapixels a second");
-    println!(
-        "{:<24} {:>7} {:>7} {:>7} {:>7}",
-        "", "noise", "smooth", "glaze", "flat"
-    );
-    line("proved", speeds.map(|speed| speed.proved));
-    line("plain", speeds.map(|speed| speed.plain));
-    line(
-        "proved / plain",
-        speeds.map(|speed| speed.proved / speed.plain),
-    );
-    let against_noise = speeds.map(|speed| speed.proved / on_noise);
-    line("proved / plain on noise", against_noise);
+    println!("{SIDE} x {SIDE}, phase 0, {RUNS} runs, {LITERAL_RUNS} of the literal version");
+    let speeds = develop_tables();
+    structure_table();
+    file_table();
+    let costs = growth_table();
+    threads_table();
+    if let Some(path) = std::env::args_os().nth(1) {
+        std::fs::write(&path, picture(&speeds, &costs)).expect("a path that can be written");
+    }
+    let on_noise = speeds[0][PLAIN].best;
+    let against_noise = speeds.map(|versions| versions[PROVED].best / on_noise);
     let met = against_noise[0] >= 1.9 && against_noise.iter().all(|&ratio| ratio >= 1.5);
-    println!("{}", if met { "fast enough" } else { "too slow" });
+    println!("\n{}", if met { "fast enough" } else { "too slow" });
     ExitCode::from(u8::from(!met))
 }

@@ -1,6 +1,6 @@
 //! Document 01, "Gradients": E and S of every site, formed once. W and N are entries of these two planes.
 
-use crate::plane::Plane;
+use super::plane::Plane;
 
 pub struct Gradients {
     width: usize,

@@ -1,7 +1,8 @@
 //! Document 01, "Green": the two passes, with each green in eighths less 8·X.
 
-use crate::gradients::Gradients;
-use crate::plane::{Plane, Sites};
+use super::gradients::Gradients;
+use super::plane::Plane;
+use crate::sites::Sites;
 
 /// The first pass at the red and blue sites.
 pub struct FirstPass {

@@ -1,9 +1,16 @@
-//! The whole method: samples, gradients, green, differences, planes.
+//! The method as a plain scalar program: a pass over the frame for each step, each gradient formed once, no loop over sites that
+//! reflects a position, the second pass at weak sites alone, one division for a weighted mean.
 
-use crate::gradients::Gradients;
-use crate::green::FirstPass;
-use crate::mean::{output, weighted_mean};
-use crate::plane::{Plane, Sites};
+mod gradients;
+mod green;
+mod mean;
+mod plane;
+
+use crate::sites::Sites;
+use gradients::Gradients;
+use green::FirstPass;
+use mean::{output, weighted_mean};
+use plane::Plane;
 
 /// The buffers for frames of one size, made once, so that a call allocates nothing.
 pub struct Plain {

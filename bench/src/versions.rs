@@ -1,0 +1,82 @@
+//! The versions of the method that are timed: each has its buffers for frames of one size before the clock starts.
+
+use crate::optimised::Optimised;
+use crate::plain::Plain;
+
+pub trait Version {
+    fn new(width: usize, height: usize) -> Self
+    where
+        Self: Sized;
+
+    /// Fills the planes red, green and blue from a mosaic of the size.
+    fn develop(&mut self, phase: usize, mosaic: &[u16], planes: [&mut [i32]; 3]);
+}
+
+/// The proved library.
+pub struct Proved {
+    width: usize,
+    height: usize,
+    work: Vec<i32>,
+}
+
+impl Version for Proved {
+    fn new(width: usize, height: usize) -> Self {
+        let work = vec![-1; 4 * width * height];
+        Proved {
+            width,
+            height,
+            work,
+        }
+    }
+
+    fn develop(&mut self, phase: usize, mosaic: &[u16], [red, green, blue]: [&mut [i32]; 3]) {
+        let (width, height, work) = (self.width, self.height, &mut self.work);
+        let answer = compare::develop(width, height, phase, mosaic, red, green, blue, work);
+        assert_eq!(answer, Ok(()));
+    }
+}
+
+/// The independent implementation of tests/reference.
+pub struct Literal {
+    width: usize,
+    height: usize,
+    work: Vec<i32>,
+}
+
+impl Version for Literal {
+    fn new(width: usize, height: usize) -> Self {
+        let work = vec![-1; 4 * width * height];
+        Literal {
+            width,
+            height,
+            work,
+        }
+    }
+
+    fn develop(&mut self, phase: usize, mosaic: &[u16], [red, green, blue]: [&mut [i32]; 3]) {
+        let (width, height, work) = (self.width, self.height, &mut self.work);
+        let answer =
+            reference::calls::develop(width, height, phase, mosaic, red, green, blue, work);
+        assert_eq!(answer, Ok(()));
+    }
+}
+
+impl Version for Plain {
+    fn new(width: usize, height: usize) -> Self {
+        Plain::new(width, height)
+    }
+
+    fn develop(&mut self, phase: usize, mosaic: &[u16], planes: [&mut [i32]; 3]) {
+        Plain::develop(self, phase, mosaic, planes);
+    }
+}
+
+impl Version for Optimised {
+    fn new(width: usize, height: usize) -> Self {
+        Optimised::new(width, height)
+    }
+
+    fn develop(&mut self, phase: usize, mosaic: &[u16], planes: [&mut [i32]; 3]) {
+        Optimised::develop(self, phase, mosaic, planes);
+    }
+}

@@ -1,0 +1,121 @@
+//! The plain and the optimised version against the independent implementation: every entry of every plane.
+
+#[path = "../../tests/reference/tests/common/mod.rs"]
+mod common;
+
+use bench::optimised::{Optimised, Savings};
+use bench::plain::Plain;
+use bench::versions::Version;
+use common::{developed, frame, frame_of_sides, Developed, Generator, Kind, KINDS};
+use reference::sites::Frame;
+
+/// The planes of a version, from buffers that hold something else.
+fn planes_of(version: &mut impl Version, frame: &Frame) -> Developed {
+    let other = vec![-5_555; frame.samples.len()];
+    let mut planes = Developed {
+        red: other.clone(),
+        green: other.clone(),
+        blue: other,
+    };
+    let lent = [
+        &mut planes.red[..],
+        &mut planes.green[..],
+        &mut planes.blue[..],
+    ];
+    version.develop(frame.phase, &frame.samples, lent);
+    planes
+}
+
+fn compare<V: Version>(frame: &Frame) {
+    let mut version = V::new(frame.width, frame.height);
+    assert!(
+        planes_of(&mut version, frame) == developed(frame),
+        "{frame:?}"
+    );
+}
+
+fn compare_random_frames<V: Version>(seed: u64, greatest_side: usize, of_each_kind: usize) {
+    let mut generator = Generator::new(seed);
+    for _ in 0..of_each_kind {
+        for kind in KINDS {
+            compare::<V>(&frame(&mut generator, kind, greatest_side));
+        }
+    }
+}
+
+fn compare_small_frames<V: Version>(seed: u64) {
+    let mut generator = Generator::new(seed);
+    for (width, height) in (2..=9).flat_map(|width| (2..=9).map(move |height| (width, height))) {
+        for phase in 0..4 {
+            let mut frame = frame_of_sides(&mut generator, Kind::FewValued, width, height);
+            frame.phase = phase;
+            compare::<V>(&frame);
+        }
+    }
+}
+
+fn compare_with_used_buffers<V: Version>(seed: u64) {
+    let mut generator = Generator::new(seed);
+    let mut version = V::new(33, 18);
+    for _ in 0..60 {
+        let kind = generator.one_of(&KINDS);
+        let frame = frame_of_sides(&mut generator, kind, 33, 18);
+        assert!(planes_of(&mut version, &frame) == developed(&frame));
+    }
+}
+
+#[test]
+fn plain_on_random_frames_of_every_kind() {
+    compare_random_frames::<Plain>(70, 24, 300);
+}
+
+#[test]
+fn plain_on_every_small_size_and_phase() {
+    compare_small_frames::<Plain>(71);
+}
+
+/// What an earlier call left in the buffers is not read.
+#[test]
+fn plain_with_used_buffers() {
+    compare_with_used_buffers::<Plain>(72);
+}
+
+#[test]
+fn optimised_on_random_frames_of_every_kind() {
+    compare_random_frames::<Optimised>(73, 24, 600);
+}
+
+/// Wide enough for every loop's whole steps and what they leave over.
+#[test]
+fn optimised_on_wider_frames() {
+    compare_random_frames::<Optimised>(74, 120, 20);
+}
+
+#[test]
+fn optimised_on_every_small_size_and_phase() {
+    compare_small_frames::<Optimised>(75);
+}
+
+#[test]
+fn optimised_with_used_buffers() {
+    compare_with_used_buffers::<Optimised>(76);
+}
+
+/// Each saving can be left out.
+#[test]
+fn optimised_without_its_savings() {
+    let seed = 77;
+    let mut generator = Generator::new(seed);
+    for _ in 0..300 {
+        let kind = generator.one_of(&KINDS);
+        let frame = frame(&mut generator, kind, 40);
+        for (rings, loads_once) in [(false, false), (false, true), (true, false)] {
+            let savings = Savings { rings, loads_once };
+            let mut version = Optimised::with(savings, frame.width, frame.height);
+            assert!(
+                planes_of(&mut version, &frame) == developed(&frame),
+                "{frame:?}"
+            );
+        }
+    }
+}
