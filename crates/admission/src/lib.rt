@@ -6,6 +6,7 @@ ghost use mathlib.Core.Path.{_≡_};
 ghost use Prim.Native.Nat.{_*_, _≤_};
 ghost use Rattle.frame.specs.Sites.{side-allowed};
 ghost use Rattle.frame.specs.Calls.{samples-answer};
+ghost use Rattle.admission.specs.Highest.{highest-of};
 ghost use Rattle.admission.specs.ShapeTest.{shape-allowed, shape-answer};
 
 // Whether a count of rows or columns is from 2 to 4,096.
@@ -64,8 +65,22 @@ pub fn test_shape(shape: Shape, count: usize) -> Answer
     Answer::Done
 }
 
-// Number 5: the first sample above 1,023.
-pub fn test_samples(samples: &[u16]) -> Answer
+// The highest sample, 0 of none.
+fn highest(samples: &[u16]) -> u16
+    ensures { λ r. ⌜ r ≡ highest-of (now (samples .entry)) ⌝ }
+{
+    let mut most: u16 = 0;
+    let mut k: usize = 0;
+    while k < samples.len() {
+        let z = samples[k];
+        most = if most < z { z } else { most };
+        k += 1;
+    }
+    most
+}
+
+// The first sample above 1,023.
+fn first_above(samples: &[u16]) -> Answer
     ensures { λ r. ⌜ r ≡ samples-answer 0 (now (samples .entry)) ⌝ }
 {
     let mut k: usize = 0;
@@ -76,4 +91,14 @@ pub fn test_samples(samples: &[u16]) -> Answer
         k += 1;
     }
     Answer::Done
+}
+
+// Number 5. The highest sample is found without a branch; only where it is too high is the first such one looked for.
+pub fn test_samples(samples: &[u16]) -> Answer
+    ensures { λ r. ⌜ r ≡ samples-answer 0 (now (samples .entry)) ⌝ }
+{
+    if highest(samples) <= 1023 {
+        return Answer::Done;
+    }
+    first_above(samples)
 }
