@@ -1,6 +1,6 @@
--- Document 00, demand 1, for each call: what is returned is a row of document 01's table (`Rows`), and whatever is returned other than
--- 0, 0 leaves every lent buffer as it was. That no call traps, runs without end or touches anything outside what it is lent is proved of
--- every function by the language; what is lent to be read alone cannot change. Assumes nothing.
+-- Document 00, demand 1, for each call: what is returned is a row of document 01's table with its condition (`Rows`, `ReadRows`), and
+-- whatever is returned other than 0, 0 leaves every lent buffer as it was. That no call traps, runs without end or touches anything outside
+-- what it is lent is proved of every function by the language; what is lent to be read alone cannot change. Assumes nothing.
 use mathlib.Core.Path.{_≡_, refl, sym, _∙_, ap, ap₂}
 use mathlib.Core.Bool.{true≢false}
 use mathlib.Core.List.{List}
@@ -17,7 +17,8 @@ use Rattle.frame.specs.Calls.{success, returned, returned-by-read, lengths-allo
 use Rattle.frame_file.specs.FrameFile.{file-length, Reading, accepted, refused, answer-of, samples-of, reading, read-answer, samples-after-read, write-answer, file-after-write}
 use Rattle.demands.specs.WhatCallsLeave.{Buffers, buffers, lengths-of, Lengths-allowed, DevelopLeaves, ClampLeaves, ReadLeaves, WriteLeaves}
 use Rattle.demands.specs.Acceptance.{lengths-yes, yes-lengths}
-use Rattle.demands.specs.Rows.{Row-of-frame, Row-of-read, Row-of-clamp, number-4, done, in-order-row, reading-row}
+use Rattle.demands.specs.Rows.{Row-of-frame, Row-of-clamp, number-4, done, in-order-row}
+use Rattle.demands.specs.ReadRows.{Row-of-read, reading-row}
 
 -- ---- develop
 
@@ -67,9 +68,10 @@ module _ (numbers before : List ℤ) where
 -- ---- read
 
 module _ (file before : List ℕ) where
-  pub read-row : (answer : ReadAnswer) (left : List ℕ) → ReadLeaves file before answer left → Row-of-read (returned-by-read answer)
+  pub read-row : (answer : ReadAnswer) (left : List ℕ) → ReadLeaves file before answer left
+      → Row-of-read file (length before) (returned-by-read answer)
   unfolding read-answer
-  read-row answer left call = rw (call .answered) (reading-row file (length before) .is-row)
+  read-row answer left call = rw (call .answered) (reading-row file (length before))
 
   nothing-read : (o : Reading) → ¬ (returned-by-read (answer-of o) ≡ success) → samples-of o before ≡ before
   nothing-read (accepted f) no-success = absurd (no-success refl)

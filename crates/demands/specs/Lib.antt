@@ -2,6 +2,7 @@ pub mod WhatCallsLeave
 pub mod Contracts
 pub mod Exports
 pub mod Rows
+pub mod ReadRows
 pub mod Acceptance
 pub mod Demand1
 pub mod Demand2

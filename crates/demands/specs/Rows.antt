@@ -1,22 +1,19 @@
--- Document 01, the table "returned: number, place", row by row with its conditions; and that what the calls answer is such a row.
--- Assumes nothing.
+-- Document 01, the table "returned: number, place", for develop, write and clamp: row by row with its conditions; and that what develop and
+-- write answer is such a row. `ReadRows` has the rows of read. Assumes nothing.
 use mathlib.Core.Path.{_≡_, sym, _∙_, subst}
 use mathlib.Core.Bool.{Bool, true, false, _&&_, true≢false}
 use mathlib.Core.List.{List, [], _∷_}
-use Prim.Native.Nat.{ℕ, zero, suc, _+_, _*_, _-_, _<_, _≤_}
+use Prim.Native.Nat.{ℕ, zero, suc, _+_, _*_, _<_, _≤_}
 use native.Mathlib.Omega.{arith}
 use lib.Dec.{leb, eqb}
 use lib.ListN.{length, getD}
 use Rattle.toolkit.specs.Tests.{by-test, holds, leb-le, leb-gt, leb-yes, eqb-eq, eqb-ne}
-use Rattle.frame.specs.declared.Refusal.{Refusal}
-use Rattle.frame.specs.declared.Refusal.the-variants.{BufferLength, Sample, FileLength, Check, Header, BlockNumber, Filler}
+use Rattle.frame.specs.declared.Refusal.the-variants.{Sample}
 use Rattle.frame.specs.declared.Answer.{Answer}
 use Rattle.frame.specs.declared.Answer.the-variants.{Done, Refused}
 use Rattle.frame.specs.Sites.{Frame, side-allowed, phase-allowed, highest-sample}
-use Rattle.frame.specs.Calls.{Returned, success, number-and-place, returned, returned-by-read, samples-answer, answer-in-order}
+use Rattle.frame.specs.Calls.{Returned, success, returned, samples-answer, answer-in-order}
 use Rattle.frame.specs.Admission.{and-true, side-low, side-high}
-use Rattle.frame_file.specs.FrameFile.{sample-count, block, block-count, file-length, stored-frame, length-allowed, check-holds, number-holds, header-allowed, header-filler, filler-holds, Reading, answer-of, tested, later-blocks, reading}
-use Rattle.frame_file.specs.Lists.{all-zero}
 
 abbrev pub row : ℕ → ℕ → Returned
 row number place = record { number = number; place = place }
@@ -41,17 +38,6 @@ pub data Row-of-frame (f : Frame) (Allowed : Type 0) : Returned → Type 0 where
       → Row-of-frame f Allowed (row 5 k)
   done : Sides-allowed f → f .phase ≤ 3 → length (f .samples) ≡ f .height * f .width → Allowed
       → ((k : ℕ) → k < length (f .samples) → getD (f .samples) k 0 ≤ 1023) → Row-of-frame f Allowed success
-
--- ---- rows 4 and 6 to 10: read; place 0, or the block
-
-pub data Row-of-read : Returned → Type 0 where
-  number-4 : Row-of-read (row 4 0)
-  number-6 : Row-of-read (row 6 0)
-  number-7 : (block : ℕ) → Row-of-read (row 7 block)
-  number-8 : Row-of-read (row 8 0)
-  number-9 : (block : ℕ) → Row-of-read (row 9 block)
-  number-10 : (block : ℕ) → Row-of-read (row 10 block)
-  done : Row-of-read success
 
 -- ---- row 4: clamp
 
@@ -134,34 +120,3 @@ in-order-row f others Allowed right wrong = by-test (side-allowed (f .width) && 
     (λ m. rw (s, p, m) (number-3 (sides-yes f s) (leb-le _ _ p) (eqb-ne m))))
     (λ p. rw (s, p) (number-2 (sides-yes f s) (leb-gt _ _ p))))
     (λ s. rw s (number-1 (sides-no f s)))
-
--- ---- laws: read
-
-pub record Row-of (o : Reading) : Type 0 where
-  pub is-row : Row-of-read (returned-by-read (answer-of o))
-
-tested-row : (holds : Bool) (why : Refusal) (rest : Reading) → Row-of-read (number-and-place why) → Row-of rest → Row-of (tested holds why rest)
-tested-row true why rest here later = later
-tested-row false why rest here later = record { is-row = here }
-
-later-row : (file : List ℕ) (f : Frame) (n left : ℕ) → Row-of (later-blocks file f n left)
-unfolding later-blocks
-later-row file f n zero = record { is-row = done }
-later-row file f n (suc left) =
-    tested-row (check-holds (block file n)) (Check n) _ (number-7 n)
-    (tested-row (number-holds (block file n) n) (BlockNumber n) _ (number-9 n)
-    (tested-row (filler-holds file (sample-count f) n) (Filler n) _ (number-10 n)
-    (later-row file f (suc n) left)))
-
-pub reading-row : (file : List ℕ) (room : ℕ) → Row-of (reading file room)
-unfolding reading
-reading-row file room =
-    let f : Frame = stored-frame file in
-    tested-row (length-allowed (length file)) FileLength _ number-6
-    (tested-row (check-holds (block file 0)) (Check 0) _ (number-7 0)
-    (tested-row (number-holds (block file 0) 0) (BlockNumber 0) _ (number-9 0)
-    (tested-row (header-allowed (block file 0)) Header _ number-8
-    (tested-row (all-zero (header-filler (block file 0))) (Filler 0) _ (number-10 0)
-    (tested-row (eqb (length file) (file-length f)) FileLength _ number-6
-    (tested-row (leb (sample-count f) room) BufferLength _ number-4
-    (later-row file f 1 (block-count (sample-count f) - 1))))))))
