@@ -1,4 +1,4 @@
--- What the exports return: the document's number, place and values of an answer. Assumes nothing.
+-- What the exports return: the document's number, place and values of an answer. Definitions alone. Assumes nothing.
 use mathlib.Core.Path.{_≡_}
 use lib.ListN.{getD}
 use Rattle.frame.specs.declared.Answer.{Answer}

@@ -16,9 +16,9 @@ use Rattle.frame.specs.Reflection.{reflect-lt}
 use Rattle.method.specs.Gradients.{mosaic, around-in, samples-around, FourDirections, gradients-at}
 use Rattle.method.specs.Green.{Direction, trial-difference}
 use Rattle.method.specs.Four.{directions, sizes, listed}
-use Rattle.method.specs.Planes.{weighted-mean, green-difference, final-difference, chroma-site-difference, colour-difference, green-quarters, quarters, corner-gradients}
+use Rattle.method.specs.Planes.{weighted-mean, green-difference, final-difference, chroma-site-difference, colour-difference, corner-gradients}
 use Rattle.method.specs.GradientLaws.{gradients-bound}
-use Rattle.method.specs.Range.{mean-ranged, Samples-ranged, natural-ranged, trial-difference-ranged, green-difference-ranged, final-difference-ranged, chroma-site-ranged, colour-difference-ranged, green-quarters-ranged, quarters-ranged}
+use Rattle.method.specs.Range.{mean-ranged, Samples-ranged, natural-ranged, trial-difference-ranged, green-difference-ranged, final-difference-ranged, chroma-site-ranged, colour-difference-ranged}
 
 -- a number's size, from the two ends of its range, and back
 pub ranged-size : (lo hi m : ℕ) (z : ℤ) → lo ≤ m → hi ≤ m → Ranged lo hi z → natAbs z ≤ m
@@ -135,13 +135,3 @@ module _ (f : Frame) (tall : 2 ≤ f .height) (wide : 2 ≤ f .width) (ranged : 
   unfolding mosaic
   colour-difference-size c i j hi hj =
       ranged-size 4092 4092 4092 _ (lit≤ tt) (lit≤ tt) (colour-difference-ranged 1023 (mosaic f) samples-ranged c i j hi hj)
-
-  pub green-quarters-size : (i j : ℕ) → i < f .height → j < f .width → natAbs (green-quarters (mosaic f) i j) ≤ 8184
-  unfolding mosaic
-  green-quarters-size i j hi hj =
-      ranged-size 4092 8184 8184 _ (lit≤ tt) (lit≤ tt) (green-quarters-ranged 1023 (mosaic f) samples-ranged i j hi hj)
-
-  pub quarters-size : (c : Colour) (i j : ℕ) → i < f .height → j < f .width → natAbs (quarters (mosaic f) c i j) ≤ 12276
-  unfolding mosaic
-  quarters-size c i j hi hj =
-      ranged-size 8184 12276 12276 _ (lit≤ tt) (lit≤ tt) (quarters-ranged 1023 (mosaic f) samples-ranged c i j hi hj)

@@ -1,9 +1,9 @@
 -- The lines of a site and of a refusal as pieces, each number with the byte behind it. Assumes nothing.
-use mathlib.Core.Path.{_≡_, refl, sym, _∙_, ap}
+use mathlib.Core.Path.{_≡_, sym, _∙_, ap}
 use mathlib.Core.List.{List, [], _∷_, _++_, append-assoc}
-use Prim.Native.Nat.{ℕ, zero, suc, _+_, _<_, _≤_}
+use Prim.Native.Nat.{ℕ, _+_, _<_, _≤_}
 use native.Mathlib.Omega.{arith}
-use lib.ListN.{length, getD, length-append}
+use lib.ListN.{length, length-append}
 use Rattle.frame.specs.declared.Refusal.{Refusal}
 use Rattle.frame.specs.Calls.{number-and-place}
 use Rattle.printing.specs.Printing.{decimal, numbers-line, refused-word, refusal-text}

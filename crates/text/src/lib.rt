@@ -1,6 +1,5 @@
 // Text composed into a lent buffer, from a position on. Each function answers the position behind what it put there.
 use frame::Refusal;
-ghost use mathlib.Core.Path.{_≡_};
 ghost use mathlib.Core.List.{[], _∷_, _++_};
 ghost use Prim.Native.Nat.{_+_, _≤_};
 ghost use lib.ListN.{length};

@@ -1,4 +1,4 @@
--- What is known once write has made its tests. Assumes nothing.
+-- What is known once write has made its tests. Definitions alone. Assumes nothing.
 use mathlib.Core.Path.{_≡_}
 use mathlib.Core.List.{List}
 use Prim.Native.Nat.{ℕ, _*_, _≤_}
