@@ -14,14 +14,15 @@ use Rattle.method.specs.Four.{directions, sizes}
 use Rattle.method.specs.Planes.{weighted-mean, diagonally, corners, corner-gradients, chroma-site-difference}
 use Rattle.method.specs.Sizes.{At-most, around-size, final-difference-size}
 use Rattle.positions.specs.Taken.{Taken}
-use Rattle.positions.specs.Places.{row-end}
+use Rattle.positions.specs.Rings.{ring-row}
+use Rattle.positions.specs.RingLaws.{ring-end}
 use Rattle.positions.specs.Near.{near-north, near-south}
 use Rattle.positions.specs.HalfRows.{chroma-start, half-count, chroma-count, chroma-row, Half}
 use Rattle.positions.specs.HalfRowLaws.{chroma-small, chroma-odd, both-counts, rest-small, rest-half}
-use Rattle.records.specs.Held.{Held}
+use Rattle.records.specs.Held.{Kept}
 use Rattle.records.specs.Layout.{record-size, south-part, final-part}
 use Rattle.records.specs.Quantities.{finals, others}
-use Rattle.records.specs.SiteColours.{chroma-not-opposite}
+use Rattle.records.specs.SiteColours.{chroma-not-traded}
 use Rattle.records.specs.Stages.{Lent, Diagonal-reads}
 use Rattle.half_rows.specs.Sources.{source-entry, north-entry}
 use Rattle.half_rows.specs.Mirror.{mirrored}
@@ -43,21 +44,21 @@ reach-of W c k h l = omega arith
 -- a row one off, copied and mirrored
 pub record Row-one-off (f : Frame) (c r rest : ℕ) (work copied row : List ℤ) : Type 0 where
   pub copied-row : Entries (pos 0) 2064 4 (rest + 4)
-      (λ (x : ℕ). getD work (r * record-size (f .width) + final-part (f .width) + (x - 4)) (pos 0)) copied
+      (λ (x : ℕ). getD work (ring-row r * record-size (f .width) + final-part (f .width) + (x - 4)) (pos 0)) copied
   pub mirrored-row : Entries (pos 0) 2064 (4 - 1) (half-count (f .width) (1 - c) + 4 + 1)
       (λ (x : ℕ). getD copied (source-entry (f .width) (1 - c) x) (pos 0)) row
 
 -- what the code has formed of row i when its means are due
-pub record Diagonal-row (f : Frame) (i c count above below : ℕ) (tops work n copied-up up copied-down down : List ℤ) : Type 0 where
-  pub gradient-row : Gradient-row f i c count tops work n
-  pub held : Held (record-size (f .width)) (final-part (f .width)) (chroma-count f) (i - 1) (min (i + 2) (f .height)) (chroma-row f (finals f)) work
+pub record Diagonal-row (f : Frame) (i base c count above below : ℕ) (tops work n copied-up up copied-down down : List ℤ) : Type 0 where
+  pub gradient-row : Gradient-row f i base c count tops work n
+  pub held : Kept (record-size (f .width)) (final-part (f .width)) (chroma-count f) (i - 1) (min (i + 2) (f .height)) (chroma-row f (finals f)) work
   pub one-above : above ≡ reflect (f .height) (subℕ i 1)
   pub one-below : below ≡ reflect (f .height) (pos (i + 1))
   pub up-row : Row-one-off f c above (f .width - count) work copied-up up
   pub down-row : Row-one-off f c below (f .width - count) work copied-down down
 
 -- the room of row r's final differences
-module _ {f : Frame} {i c count : ℕ} {tops work : List ℤ} (lent : Lent f i tops work) (start : c ≡ chroma-start (f .phase) i)
+module _ {f : Frame} {i base c count : ℕ} {tops work : List ℤ} (lent : Lent f i base tops work) (start : c ≡ chroma-start (f .phase) i)
     (sites : count ≡ half-count (f .width) c) where
   low : c ≤ 1
   low = omega (arith, chroma-small (f .phase) i)
@@ -65,21 +66,21 @@ module _ {f : Frame} {i c count : ℕ} {tops work : List ℤ} (lent : Lent f i t
   pub rest-few : f .width - count ≤ 2048
   rest-few = omega (arith, rest-small (f .width) c low (lent .taken .wide) (lent .taken .narrow))
 
-  pub rest-room : (r : ℕ) {at : ℕ} → r < f .height → at ≡ r * record-size (f .width) + final-part (f .width) → at + (f .width - count) ≤ length work
-  rest-room r h e = omega (arith, rest-half (f .width) c low, lent .taken .wide, lent .work-size, row-end (f .height) (record-size (f .width)) r h)
+  pub rest-room : (r : ℕ) {at : ℕ} → r < f .height → at ≡ ring-row r * record-size (f .width) + final-part (f .width) → at + (f .width - count) ≤ length work
+  rest-room r h e = omega (arith, rest-half (f .width) c low, lent .taken .wide, lent .work-size, ring-end (f .height) (record-size (f .width)) r h)
 
-pub row-one-off : {f : Frame} {c r rest at : ℕ} {work copied row : List ℤ} → at ≡ r * record-size (f .width) + final-part (f .width)
+pub row-one-off : {f : Frame} {c r rest at : ℕ} {work copied row : List ℤ} → at ≡ ring-row r * record-size (f .width) + final-part (f .width)
     → Entries (pos 0) 2064 4 (rest + 4) (λ (x : ℕ). getD work (at + (x - 4)) (pos 0)) copied
     → Entries (pos 0) 2064 (4 - 1) (half-count (f .width) (1 - c) + 4 + 1) (λ (x : ℕ). getD copied (source-entry (f .width) (1 - c) x) (pos 0)) row
     → Row-one-off f c r rest work copied row
 row-one-off e a b = record { copied-row = rw e at a; mirrored-row = b }
 
-pub diagonal-row : {f : Frame} {i c count above below : ℕ} {tops work n copied-up up copied-down down : List ℤ} → Diagonal-reads f i tops work
+pub diagonal-row : {f : Frame} {i base c count above below : ℕ} {tops work n copied-up up copied-down down : List ℤ} → Diagonal-reads f i base tops work
     → c ≡ chroma-start (f .phase) i → count ≡ half-count (f .width) c
     → Entries (pos 0) 2064 4 (count + 4) (λ (x : ℕ). north-entry tops work (f .width) i (0 + (x - 4))) n
     → above ≡ reflect (f .height) (subℕ i 1) → below ≡ reflect (f .height) (pos (i + 1))
     → Row-one-off f c above (f .width - count) work copied-up up → Row-one-off f c below (f .width - count) work copied-down down
-    → Diagonal-row f i c count above below tops work n copied-up up copied-down down
+    → Diagonal-row f i base c count above below tops work n copied-up up copied-down down
 diagonal-row r c n nr a b u d = record {
   gradient-row = record { lent = r .lent; gradients = r .gradients; start = c; sites = n; north-row = nr };
   held = r .finals-held;
@@ -89,8 +90,8 @@ diagonal-row r c n nr a b u d = record {
   down-row = d;
 }
 
-module _ {f : Frame} {i c count above below : ℕ} {tops work n copied-up up copied-down down : List ℤ}
-    (row : Diagonal-row f i c count above below tops work n copied-up up copied-down down) where
+module _ {f : Frame} {i base c count above below : ℕ} {tops work n copied-up up copied-down down : List ℤ}
+    (row : Diagonal-row f i base c count above below tops work n copied-up up copied-down down) where
   taken : Taken f
   taken = row .gradient-row .lent .taken
 
@@ -107,8 +108,8 @@ module _ {f : Frame} {i c count above below : ℕ} {tops work n copied-up up cop
       → Row-one-off f c r (f .width - count) work copied l → Half (f .width) (1 - c) (4 - 1) (half-count (f .width) (1 - c) + 4 + 1) (finals f r) l
   half r {copied} {l} a b par one =
       mirrored (f .width) (1 - c) (taken .wide) (omega arith) (4 - 1) (half-count (f .width) (1 - c) + 4 + 1) (finals f r) copied l
-      (half-of-row f (record-size (f .width)) (final-part (f .width)) (i - 1) (min (i + 2) (f .height)) (finals f) work (taken .wide) (row .held)
-      r (1 - c) (r * record-size (f .width) + final-part (f .width)) (f .width - count) copied a b
+      (half-of-row f ring-row (record-size (f .width)) (final-part (f .width)) (i - 1) (min (i + 2) (f .height)) (finals f) work (taken .wide) (row .held)
+      r (1 - c) (ring-row r * record-size (f .width) + final-part (f .width)) (f .width - count) copied a b
       (ap (λ (x : ℕ). 1 - x) (row .gradient-row .start) ∙ sym (chroma-odd (f .phase) i r par)) rest-is refl (one .copied-row))
       (one .mirrored-row)
 
@@ -169,7 +170,7 @@ module _ {f : Frame} {i c count above below : ℕ} {tops work n copied-up up cop
   pub corner-values-fit : Values-fit 4092 count (corners-read up down c)
   corner-values-fit = record { each = values-small }
 
-  module _ (east south : ℕ) (e : east ≡ i * record-size (f .width)) (s : south ≡ i * record-size (f .width) + south-part (f .width)) (m : List ℤ)
+  module _ (east south : ℕ) (e : east ≡ ring-row i * record-size (f .width)) (s : south ≡ ring-row i * record-size (f .width) + south-part (f .width)) (m : List ℤ)
       (means : Entries (pos 0) 2064 4 (count + 4) (λ (x : ℕ). corner-mean-read work east south n up down c (x - 4)) m) where
     other-is : (k : ℕ) → k < count → getD m (k + 4) (pos 0) ≡ others f i (c + 2 * k)
     unfolding others chroma-site-difference finals mosaic
@@ -178,7 +179,7 @@ module _ {f : Frame} {i c count above below : ℕ} {tops work n copied-up up cop
         means .at (k + 4) (omega arith) (omega arith)
         ∙ (ap (corner-mean-read work east south n up down c) back
         ∙ (ap₂ weighted-mean (four-corners k h) (ap corner-gradients (gradients-are (row .gradient-row) east south e s k h))
-        ∙ rw (chroma-not-opposite (f .phase) i c k (row .gradient-row .start)) refl))
+        ∙ rw (chroma-not-traded (f .phase) i c k (row .gradient-row .start)) refl))
 
     pub others-stored : {at a : ℕ} {old new : List ℤ} → at ≡ a → Wrote (pos 0) at count (λ (k : ℕ). getD m (k + 4) (pos 0)) old new
         → Wrote (pos 0) a (chroma-count f i) (chroma-row f (others f) i) old new

@@ -19,6 +19,7 @@ use Rattle.method.specs.Sizes.{At-most, around-size, green-difference-size, mea
 use Rattle.positions.specs.Taken.{Taken}
 use Rattle.positions.specs.Places.{plane-row}
 use Rattle.positions.specs.Near.{near-north, near-south}
+use Rattle.positions.specs.Rings.{ring-row}
 use Rattle.positions.specs.HalfRows.{chroma-start, half-count, chroma-count, chroma-row, Half}
 use Rattle.positions.specs.HalfRowLaws.{count-high}
 use Rattle.records.specs.Held.{Held}
@@ -41,8 +42,8 @@ here : (c k : ℕ) → subℕ (c + 2 * (k + 4)) 8 ≡ pos (c + 2 * k) +ℤ pos 0
 here c k = simp to-naturals (omega arith)
 
 -- what the code has formed of row i when its means are due
-pub record Enhance-row (f : Frame) (i c count below above : ℕ) (tops work green n copied l : List ℤ) : Type 0 where
-  pub gradient-row : Gradient-row f i c count tops work n
+pub record Enhance-row (f : Frame) (i base c count below above : ℕ) (tops work green n copied l : List ℤ) : Type 0 where
+  pub gradient-row : Gradient-row f i base c count tops work n
   pub green-size : Plane-size f green
   pub held : Held (f .width) 0 (chroma-count f) (i - 2) (min (i + 3) (f .height)) (chroma-row f (greens f)) green
   pub two-below : below ≡ reflect (f .height) (pos (i + 2))
@@ -51,13 +52,13 @@ pub record Enhance-row (f : Frame) (i c count below above : ℕ) (tops work gree
   pub mirrored-row : Entries (pos 0) 2064 (4 - 1) (half-count (f .width) c + 4 + 1)
       (λ (x : ℕ). getD copied (source-entry (f .width) c x) (pos 0)) l
 
-pub enhance-row : {f : Frame} {i c count below above : ℕ} {tops work green n copied l : List ℤ} → Enhance-reads f i tops work green
+pub enhance-row : {f : Frame} {i base c count below above : ℕ} {tops work green n copied l : List ℤ} → Enhance-reads f i base tops work green
     → c ≡ chroma-start (f .phase) i → count ≡ half-count (f .width) c → below ≡ reflect (f .height) (pos (i + 2))
     → above ≡ reflect (f .height) (subℕ i 2)
     → Entries (pos 0) 2064 4 (count + 4) (λ (x : ℕ). north-entry tops work (f .width) i (0 + (x - 4))) n
     → Entries (pos 0) 2064 4 (count + 4) (λ (x : ℕ). getD green (i * f .width + (x - 4)) (pos 0)) copied
     → Entries (pos 0) 2064 (4 - 1) (half-count (f .width) c + 4 + 1) (λ (x : ℕ). getD copied (source-entry (f .width) c x) (pos 0)) l
-    → Enhance-row f i c count below above tops work green n copied l
+    → Enhance-row f i base c count below above tops work green n copied l
 enhance-row r c n b a nr cr mr = record {
   gradient-row = record { lent = r .lent; gradients = r .gradients; start = c; sites = n; north-row = nr };
   green-size = r .green-size;
@@ -69,7 +70,7 @@ enhance-row r c n b a nr cr mr = record {
 }
 
 -- the room of row r of green
-module _ {f : Frame} {i c count : ℕ} {tops work green : List ℤ} (reads : Enhance-reads f i tops work green)
+module _ {f : Frame} {i base c count : ℕ} {tops work green : List ℤ} (reads : Enhance-reads f i base tops work green)
     (start : c ≡ chroma-start (f .phase) i) (sites : count ≡ half-count (f .width) c) where
   pub row-room : (r : ℕ) → r < f .height → r * f .width + count ≤ length green
   row-room r h = omega (arith, reads .green-size, plane-row f r count (reads .lent .taken) h (omega (arith, count-high (f .width) c)))
@@ -77,8 +78,8 @@ module _ {f : Frame} {i c count : ℕ} {tops work green : List ℤ} (reads : Enh
   pub green-most : length green ≤ 67108864
   green-most = omega (arith, reads .green-size, plane-row f i 0 (reads .lent .taken) (reads .lent .inside) (omega arith))
 
-module _ {f : Frame} {i c count below above : ℕ} {tops work green n copied l : List ℤ}
-    (row : Enhance-row f i c count below above tops work green n copied l) where
+module _ {f : Frame} {i base c count below above : ℕ} {tops work green n copied l : List ℤ}
+    (row : Enhance-row f i base c count below above tops work green n copied l) where
   taken : Taken f
   taken = row .gradient-row .lent .taken
 
@@ -90,7 +91,7 @@ module _ {f : Frame} {i c count below above : ℕ} {tops work green n copied l :
 
   half : Half (f .width) c (4 - 1) (half-count (f .width) c + 4 + 1) (greens f i) l
   half = mirrored (f .width) c (taken .wide) small (4 - 1) (half-count (f .width) c + 4 + 1) (greens f i) copied l
-      (half-of-row f (f .width) 0 (i - 2) (min (i + 3) (f .height)) (greens f) green (taken .wide) (row .held) i c (i * f .width) count copied
+      (half-of-row f (λ (n : ℕ). n) (f .width) 0 (i - 2) (min (i + 3) (f .height)) (greens f) green (taken .wide) (row .held) i c (i * f .width) count copied
       (omega arith) (omega (arith, inside)) (row .gradient-row .start) (row .gradient-row .sites) (omega arith) (row .copied-row))
       (row .mirrored-row)
 
@@ -105,7 +106,7 @@ module _ {f : Frame} {i c count below above : ℕ} {tops work green n copied l :
     off : (r : ℕ) (o : ℤ) → r ≡ reflect (f .height) (pos i +ℤ o) → i - 2 ≤ r → r < min (i + 3) (f .height) → r % 2 ≡ i % 2
         → getD green (r * f .width + k) (pos 0) ≡ around (f .height) (f .width) (greens f) i (c + 2 * k) o (pos 0)
     off r o e a b par =
-        row-near-even f (f .width) 0 (i - 2) (min (i + 3) (f .height)) (greens f) green (taken .wide) (row .held) r i k (r * f .width) o e a b par
+        row-near-even f (λ (n : ℕ). n) (f .width) 0 (i - 2) (min (i + 3) (f .height)) (greens f) green (taken .wide) (row .held) r i k (r * f .width) o e a b par
         (omega (arith, count-is (row .gradient-row))) (omega arith)
         ∙ ap (λ (s : ℕ). around (f .height) (f .width) (greens f) i (s + 2 * k) o (pos 0)) (sym (row .gradient-row .start))
 
@@ -162,7 +163,7 @@ module _ {f : Frame} {i c count below above : ℕ} {tops work green n copied l :
   pub differences-fit : Half-fit 8192 count l
   differences-fit = record { each = λ k h. le-trans (D-small k h) (lit≤ tt) }
 
-  module _ (east south : ℕ) (e : east ≡ i * record-size (f .width)) (s : south ≡ i * record-size (f .width) + south-part (f .width)) (m : List ℤ)
+  module _ (east south : ℕ) (e : east ≡ ring-row i * record-size (f .width)) (s : south ≡ ring-row i * record-size (f .width) + south-part (f .width)) (m : List ℤ)
       (means : Entries (pos 0) 2064 4 (count + 4)
       (λ (x : ℕ). straight-mean-read work east south n l green (below * f .width) (above * f .width) (x - 4)) m) where
     mean-at : (k : ℕ) → k < count → getD m (k + 4) (pos 0) ≡ straight-mean-read work east south n l green (below * f .width) (above * f .width) k

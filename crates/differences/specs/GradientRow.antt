@@ -10,6 +10,7 @@ use Rattle.frame.specs.Sites.{Frame}
 use Rattle.method.specs.Gradients.{FourDirections, mosaic, gradients-at}
 use Rattle.method.specs.Four.{directions, sizes, listed}
 use Rattle.method.specs.Sizes.{listed-naturals}
+use Rattle.positions.specs.Rings.{ring-row}
 use Rattle.positions.specs.HalfRows.{chroma-start, half-count, chroma-count}
 use Rattle.positions.specs.HalfRowLaws.{chroma-small, count-column, count-high, count-half, count-most}
 use Rattle.records.specs.Layout.{record-size, south-part, final-part, other-part}
@@ -25,8 +26,8 @@ pub same-directions : {A : Type 0} {a b c d e f g h : A} → a ≡ e → b ≡ f
 same-directions p q r s = cc
 
 -- row i, its red and blue sites, and its N in a half row
-pub record Gradient-row (f : Frame) (i c count : ℕ) (tops work n : List ℤ) : Type 0 where
-  pub lent : Lent f i tops work
+pub record Gradient-row (f : Frame) (i base c count : ℕ) (tops work n : List ℤ) : Type 0 where
+  pub lent : Lent f i base tops work
   pub gradients : Gradients f (i - 2) (i + 1) tops work
   pub start : c ≡ chroma-start (f .phase) i
   pub sites : count ≡ half-count (f .width) c
@@ -34,7 +35,7 @@ pub record Gradient-row (f : Frame) (i c count : ℕ) (tops work n : List ℤ) :
 
 -- ---- room
 
-module _ {f : Frame} {i c count : ℕ} {tops work : List ℤ} (lent : Lent f i tops work) (start : c ≡ chroma-start (f .phase) i)
+module _ {f : Frame} {i base c count : ℕ} {tops work : List ℤ} (lent : Lent f i base tops work) (start : c ≡ chroma-start (f .phase) i)
     (sites : count ≡ half-count (f .width) c) where
   pub sites-few : count ≤ 2048
   sites-few = omega (arith, count-most (f .width) c (lent .taken .narrow))
@@ -42,13 +43,13 @@ module _ {f : Frame} {i c count : ℕ} {tops work : List ℤ} (lent : Lent f i t
   pub sites-inside : 0 + count ≤ f .width
   sites-inside = omega (arith, count-high (f .width) c)
 
-  pub final-room : {at : ℕ} → at ≡ i * record-size (f .width) + final-part (f .width) → at + count ≤ length work
-  final-room e = omega (arith, count-half (f .width) c, lent .taken .wide, record-end f i tops work lent)
+  pub final-room : {at : ℕ} → at ≡ ring-row i * record-size (f .width) + final-part (f .width) → at + count ≤ length work
+  final-room e = omega (arith, count-half (f .width) c, lent .taken .wide, record-end f i base tops work lent)
 
-  pub other-room : {at : ℕ} → at ≡ i * record-size (f .width) + other-part (f .width) → at + count ≤ length work
-  other-room e = omega (arith, count-half (f .width) c, lent .taken .wide, record-end f i tops work lent)
+  pub other-room : {at : ℕ} → at ≡ ring-row i * record-size (f .width) + other-part (f .width) → at + count ≤ length work
+  other-room e = omega (arith, count-half (f .width) c, lent .taken .wide, record-end f i base tops work lent)
 
-module _ {f : Frame} {i c count : ℕ} {tops work n : List ℤ} (row : Gradient-row f i c count tops work n) where
+module _ {f : Frame} {i base c count : ℕ} {tops work n : List ℤ} (row : Gradient-row f i base c count tops work n) where
   pub start-small : c ≤ 1
   start-small = rw (row .start) (chroma-small (f .phase) i)
 
@@ -61,7 +62,7 @@ module _ {f : Frame} {i c count : ℕ} {tops work n : List ℤ} (row : Gradient-
   pub site-inside : (k : ℕ) → k < count → c + 2 * k < f .width
   site-inside k h = count-column (f .width) c k start-small (omega (arith, row .sites))
 
-  module _ (east south : ℕ) (e : east ≡ i * record-size (f .width)) (s : south ≡ i * record-size (f .width) + south-part (f .width)) where
+  module _ (east south : ℕ) (e : east ≡ ring-row i * record-size (f .width)) (s : south ≡ ring-row i * record-size (f .width) + south-part (f .width)) where
     four-are : (k : ℕ) → k < count → four-entries work east south n k ≡ listed (gradients-at (mosaic f) i (c + 2 * k))
     four-are k h =
         site-gradients-first f i tops work (row .gradients) n east south count 0 k e s count-is refl (row .north-row) (omega (arith, count-is))
@@ -73,8 +74,8 @@ module _ {f : Frame} {i c count : ℕ} {tops work n : List ℤ} (row : Gradient-
     pub gradients-fit : Gradients-fit count east south work n
     gradients-fit = record {
       few = count-few;
-      east-in = omega (arith, e, row .sites, count-high (f .width) c, row .lent .taken .wide, record-end f i tops work (row .lent));
-      south-in = omega (arith, s, row .sites, count-high (f .width) c, row .lent .taken .wide, record-end f i tops work (row .lent));
-      most = work-most f i tops work (row .lent);
+      east-in = omega (arith, e, row .sites, count-high (f .width) c, row .lent .taken .wide, record-end f i base tops work (row .lent));
+      south-in = omega (arith, s, row .sites, count-high (f .width) c, row .lent .taken .wide, record-end f i base tops work (row .lent));
+      most = work-most f i base tops work (row .lent);
       each = λ k h. listed-naturals _ (four-are k h) (gradients-most f i (c + 2 * k) (row .lent .taken));
     }

@@ -137,13 +137,14 @@ pub fn enhance_line(
     work: &mut [i32],
     green: &[i32],
     i: usize,
+    base: usize,
     n: &mut [i32; 2064],
     l: &mut [i32; 2064],
     m: &mut [i32; 2064],
 )
-    requires { ⌜ Some-samples (λ (zs : List ℕ). Enhance-reads (frame shape zs) i (now tops) (now work) (now green)) ⌝ }
+    requires { ⌜ Some-samples (λ (zs : List ℕ). Enhance-reads (frame shape zs) i base (now tops) (now work) (now green)) ⌝ }
     requires { ⌜ (length (now n) ≡ 2064) × (length (now l) ≡ 2064) × (length (now m) ≡ 2064) ⌝ }
-    ensures { λ _. ⌜ Enhance-stores shape i (now (tops .entry)) (now (green .entry)) (now (work .entry)) (now (work .exit)) ⌝ }
+    ensures { λ _. ⌜ Enhance-stores shape i base (now (tops .entry)) (now (green .entry)) (now (work .entry)) (now (work .exit)) ⌝ }
     ensures { λ _. ⌜ (length (now (n .exit)) ≡ 2064) × (length (now (l .exit)) ≡ 2064) × (length (now (m .exit)) ≡ 2064) ⌝ }
 {
     let w = shape.width;
@@ -152,13 +153,13 @@ pub fn enhance_line(
     let count = positions::half_count(w, c);
     let below = positions::reflected(h, i + 2) * w;
     let above = positions::reflected_less(h, i, 2) * w;
-    half_rows::north(tops, work, w, i, 0, count, n);
+    half_rows::north(tops, work, w, i, base, 0, count, n);
     half_rows::copy(green, i * w, count, l);
     half_rows::mirror(l, w, c, 1);
     straight_means(
         work,
-        records::record_at(w, i),
-        records::south_at(w, i),
+        records::record_at(w, i, base),
+        records::south_at(w, i, base),
         n,
         l,
         green,
@@ -167,7 +168,7 @@ pub fn enhance_line(
         count,
         m,
     );
-    fuse_row(l, m, count, work, records::final_at(w, i));
+    fuse_row(l, m, count, work, records::final_at(w, i, base));
 }
 
 // The differences of the other colour of row i, to its record.
@@ -176,14 +177,15 @@ pub fn diagonal_line(
     shape: Shape,
     work: &mut [i32],
     i: usize,
+    base: usize,
     n: &mut [i32; 2064],
     up: &mut [i32; 2064],
     down: &mut [i32; 2064],
     m: &mut [i32; 2064],
 )
-    requires { ⌜ Some-samples (λ (zs : List ℕ). Diagonal-reads (frame shape zs) i (now tops) (now work)) ⌝ }
+    requires { ⌜ Some-samples (λ (zs : List ℕ). Diagonal-reads (frame shape zs) i base (now tops) (now work)) ⌝ }
     requires { ⌜ (length (now n) ≡ 2064) × (length (now up) ≡ 2064) × (length (now down) ≡ 2064) × (length (now m) ≡ 2064) ⌝ }
-    ensures { λ _. ⌜ Diagonal-stores shape i (now (tops .entry)) (now (work .entry)) (now (work .exit)) ⌝ }
+    ensures { λ _. ⌜ Diagonal-stores shape i base (now (tops .entry)) (now (work .entry)) (now (work .exit)) ⌝ }
     ensures { λ _. ⌜ (length (now (n .exit)) ≡ 2064) × (length (now (up .exit)) ≡ 2064) × (length (now (down .exit)) ≡ 2064)
         × (length (now (m .exit)) ≡ 2064) ⌝ }
 {
@@ -191,16 +193,16 @@ pub fn diagonal_line(
     let h = shape.height;
     let c = positions::first_chroma(shape.phase, i);
     let count = positions::half_count(w, c);
-    half_rows::north(tops, work, w, i, 0, count, n);
+    half_rows::north(tops, work, w, i, base, 0, count, n);
     half_rows::copy(
         work,
-        records::final_at(w, positions::reflected_less(h, i, 1)),
+        records::final_at(w, positions::reflected_less(h, i, 1), base),
         w - count,
         up,
     );
     half_rows::copy(
         work,
-        records::final_at(w, positions::reflected(h, i + 1)),
+        records::final_at(w, positions::reflected(h, i + 1), base),
         w - count,
         down,
     );
@@ -208,8 +210,8 @@ pub fn diagonal_line(
     half_rows::mirror(down, w, 1 - c, 1);
     corner_means(
         work,
-        records::record_at(w, i),
-        records::south_at(w, i),
+        records::record_at(w, i, base),
+        records::south_at(w, i, base),
         n,
         up,
         down,
@@ -217,5 +219,5 @@ pub fn diagonal_line(
         count,
         m,
     );
-    half_rows::store(m, count, work, records::other_at(w, i));
+    half_rows::store(m, count, work, records::other_at(w, i, base));
 }

@@ -1,4 +1,4 @@
--- The estimates less 8·X, as they are formed from rows of the mosaic at the places 0 to 4, and their size. Assumes nothing.
+-- The estimates less 8·X, as they are formed from five rows of the mosaic, the first of seven, and their size. Assumes nothing.
 use mathlib.Core.Path.{_≡_, refl, sym}
 use mathlib.Core.List.{List}
 use Prim.Native.Nat.{ℕ, _+_, _*_, _-_, _<_, _≤_}
@@ -12,19 +12,21 @@ use Rattle.method.specs.Green.{line-estimate, less-eight}
 unfoldable pub line-difference : ℕ → ℕ → ℕ → ℕ → ℕ → ℤ
 line-difference x l r y z = less-eight (line-estimate (pos l) (pos r) (pos x) (pos y) (pos z)) (pos x)
 
--- along the row at place 2, and down its column, at entry j of the rows
-abbrev pub across-difference : List ℕ → ℕ → ℤ
-across-difference rows j =
-    line-difference (getD rows (8224 + j) 0) (getD rows (8224 + j - 1) 0) (getD rows (8224 + j + 1) 0) (getD rows (8224 + j - 2) 0)
-    (getD rows (8224 + j + 2) 0)
+-- along the row at entry at[2], and down its column, at entry j of the rows
+abbrev pub across-difference : List ℕ → List ℕ → ℕ → ℤ
+across-difference at rows j =
+    line-difference (getD rows (getD at 2 0 + j) 0) (getD rows (getD at 2 0 + j - 1) 0) (getD rows (getD at 2 0 + j + 1) 0)
+    (getD rows (getD at 2 0 + j - 2) 0) (getD rows (getD at 2 0 + j + 2) 0)
 
-abbrev pub down-difference : List ℕ → ℕ → ℤ
-down-difference rows j =
-    line-difference (getD rows (8224 + j) 0) (getD rows (4112 + j) 0) (getD rows (12336 + j) 0) (getD rows j 0) (getD rows (16448 + j) 0)
+abbrev pub down-difference : List ℕ → List ℕ → ℕ → ℤ
+down-difference at rows j =
+    line-difference (getD rows (getD at 2 0 + j) 0) (getD rows (getD at 1 0 + j) 0) (getD rows (getD at 3 0 + j) 0)
+    (getD rows (getD at 0 0 + j) 0) (getD rows (getD at 4 0 + j) 0)
 
--- the first m entries of the rows at the places 0 to 4 are samples
-pub record Small-rows (m : ℕ) (rows : List ℕ) : Type 0 where
-  pub each : (p x : ℕ) → p < 5 → x < m → getD rows (p * 4112 + x) 0 ≤ 1023
+-- the first five rows from the entries of at on lie inside, and their first m entries are samples
+pub record Small-rows (m : ℕ) (at rows : List ℕ) : Type 0 where
+  pub room : (p : ℕ) → p < 5 → getD at p 0 + 4112 ≤ 98688
+  pub each : (p x : ℕ) → p < 5 → x < m → getD rows (getD at p 0 + x) 0 ≤ 1023
 
 pub line-is : (x l r y z : ℕ) → pos 4 *ℤ (pos l +ℤ pos r) -ℤ pos 4 *ℤ pos x -ℤ pos 2 *ℤ (pos y +ℤ pos z) ≡ line-difference x l r y z
 unfolding line-difference less-eight line-estimate
@@ -35,31 +37,28 @@ unfolding line-difference less-eight line-estimate
 line-size x l r y z = simp to-naturals (omega arith)
 
 -- what a line reads, along the row and down the column
-module _ (m j : ℕ) (rows : List ℕ) (s : Small-rows m rows) where
-  small-at : (p x a : ℕ) → p < 5 → x < m → p * 4112 + x ≡ a → getD rows a 0 ≤ 1023
-  small-at p x a h l e = rw (sym e) (s .each p x h l)
+module _ (m j : ℕ) (at rows : List ℕ) (s : Small-rows m at rows) where
+  along : (x a : ℕ) → x < m → getD at 2 0 + x ≡ a → getD rows a 0 ≤ 1023
+  along x a l e = rw (sym e) (s .each 2 x (omega arith) l)
 
   pub across-reads : 2 ≤ j → j + 2 < m
-      → (getD rows (8224 + j) 0 ≤ 1023) × (getD rows (8224 + j - 1) 0 ≤ 1023) × (getD rows (8224 + j + 1) 0 ≤ 1023)
-      × (getD rows (8224 + j - 2) 0 ≤ 1023) × (getD rows (8224 + j + 2) 0 ≤ 1023)
+      → (getD rows (getD at 2 0 + j) 0 ≤ 1023) × (getD rows (getD at 2 0 + j - 1) 0 ≤ 1023) × (getD rows (getD at 2 0 + j + 1) 0 ≤ 1023)
+      × (getD rows (getD at 2 0 + j - 2) 0 ≤ 1023) × (getD rows (getD at 2 0 + j + 2) 0 ≤ 1023)
   across-reads h l = (
-    small-at 2 j _ (omega arith) (omega arith) refl,
-    small-at 2 (j - 1) _ (omega arith) (omega arith) (omega arith),
-    small-at 2 (j + 1) _ (omega arith) l' (omega arith),
-    small-at 2 (j - 2) _ (omega arith) (omega arith) (omega arith),
-    small-at 2 (j + 2) _ (omega arith) l (omega arith),
+    along j _ (omega arith) refl,
+    along (j - 1) _ (omega arith) (omega arith),
+    along (j + 1) _ (omega arith) (omega arith),
+    along (j - 2) _ (omega arith) (omega arith),
+    along (j + 2) _ l (omega arith),
   )
-    where
-      l' : j + 1 < m
-      l' = omega arith
 
   pub down-reads : j < m
-      → (getD rows (8224 + j) 0 ≤ 1023) × (getD rows (4112 + j) 0 ≤ 1023) × (getD rows (12336 + j) 0 ≤ 1023) × (getD rows j 0 ≤ 1023)
-      × (getD rows (16448 + j) 0 ≤ 1023)
+      → (getD rows (getD at 2 0 + j) 0 ≤ 1023) × (getD rows (getD at 1 0 + j) 0 ≤ 1023) × (getD rows (getD at 3 0 + j) 0 ≤ 1023)
+      × (getD rows (getD at 0 0 + j) 0 ≤ 1023) × (getD rows (getD at 4 0 + j) 0 ≤ 1023)
   down-reads l = (
-    small-at 2 j _ (omega arith) l refl,
-    small-at 1 j _ (omega arith) l refl,
-    small-at 3 j _ (omega arith) l refl,
-    small-at 0 j _ (omega arith) l (omega arith),
-    small-at 4 j _ (omega arith) l refl,
+    s .each 2 j (omega arith) l,
+    s .each 1 j (omega arith) l,
+    s .each 3 j (omega arith) l,
+    s .each 0 j (omega arith) l,
+    s .each 4 j (omega arith) l,
   )

@@ -1,24 +1,19 @@
 -- The first pass's outcome, as the code answers it. Assumes nothing.
-use mathlib.Core.Path.{_≡_, refl, _∙_, ap₂}
-use mathlib.Core.Bool.{false}
-use mathlib.Core.List.{List}
-use Prim.Native.Nat.{ℕ, _+_, _*_, _<_, _≤_, min, max}
+use mathlib.Core.Path.{_≡_, refl, sym, _∙_}
+use mathlib.Core.Bool.{Bool, true, false, cond}
+use Prim.Native.Nat.{ℕ, _+_, _*_, _≤_, min, max}
 use native.Mathlib.Omega.{arith}
-use lib.Dec.{T, eqb}
-use lib.IntN.{ℤ, pos, natAbs, _+ℤ_}
-use lib.ListN.{getD}
-use lib.Signed.{_≤ℤ_, nonNeg, shrZ}
+use lib.Dec.{eqb, ltb}
+use lib.IntN.{ℤ, pos, natAbs, _+ℤ_, _*ℤ_}
+use lib.Signed.{_≤ℤ_, ltZ, shrZ}
 use mir.Syntax.{w32, w64}
-use mir.Val.{Fits, SFits, toZ, ofZ}
-use mir.Facts.{toZ-ofZ}
-use Rattle.toolkit.specs.Bounds.{fits, val, b-known}
-use Rattle.toolkit.specs.BoundRules.{vals}
-use Rattle.toolkit.specs.Naturals.{natural-cast}
+use mir.Val.{SFits, toZ, ofZ}
+use Rattle.toolkit.specs.Bounds.{fits, val, wrap-is}
+use Rattle.toolkit.specs.BoundRules.{vals, lt-is}
+use Rattle.toolkit.specs.Naturals.{natural-sum}
 use Rattle.toolkit.specs.Shifts.{b-shift}
-use Rattle.toolkit.specs.Tests.{by-test, eqb-eq, eqb-yes, ltb-yes, ltb-no}
-use Rattle.method.specs.Four.{directions, sizes}
-use Rattle.method.specs.Sizes.{Naturals}
-use Rattle.method.specs.Green.{Outcome, equal, strong-across, strong-down, weak, outcome, first-pass, threshold, half}
+use Rattle.toolkit.specs.Tests.{by-test, eqb-eq, eqb-yes, ltb-lt, ltb-ge}
+use Rattle.method.specs.Green.{Outcome, equal, strong-across, strong-down, weak, outcome, threshold, half}
 use Rattle.first_pass.specs.declared.FirstPass.{FirstPass}
 use Rattle.first_pass.specs.declared.FirstPass.the-variants.{Equal, Across, Down, Weak}
 
@@ -35,82 +30,61 @@ settled Across a b own = a
 settled Down a b own = b
 settled Weak a b own = own
 
--- a number that is not negative, cast to a u32
-pub cast-natural : (z : ℤ) → pos 0 ≤ℤ z → natAbs z ≤ 40920 → T (nonNeg (toZ w64 (ofZ w64 z))) × Fits w32 (natAbs (toZ w64 (ofZ w64 z)))
-cast-natural z h k = rw (toZ-ofZ {w = w64} {z = z} (fits (b-known z 40920 k tt) tt)) (natural-cast {w = w32} z h (omega arith) tt)
+-- ---- what `decide` forms
 
-pub cast-value : (z : ℤ) → natAbs z ≤ 40920 → natAbs (toZ w64 (ofZ w64 z)) ≡ natAbs z
-cast-value z l = rw (toZ-ofZ {w = w64} {z = z} (fits (b-known z 40920 l tt) tt)) refl
+-- a choice by a test, between two formed values
+pub chosen-first : {A : Type 0} {t : Bool} {x z : A} (y : A) → t ≡ true → z ≡ x → z ≡ cond t x y
+chosen-first y e h = rw e h
 
-not-equal : (h v : ℕ) → ¬ (h ≡ v) → eqb h v ≡ false
-not-equal h v o = by-test (eqb h v) _ (λ t. absurd (o (eqb-eq h v t))) (λ t. t)
+pub chosen-second : {A : Type 0} {t : Bool} {y z : A} (x : A) → t ≡ false → z ≡ y → z ≡ cond t x y
+chosen-second x e h = rw e h
+
+-- a test of two numbers that are naturals
+pub tested : {x y : ℤ} {h v : ℕ} {t : Bool} → x ≡ pos h → y ≡ pos v → ltZ x y ≡ t → ltb h v ≡ t
+tested e f q = sym (lt-is e f) ∙ q
+
+pub lower-is : (h v : ℕ) → cond (ltb h v) (pos h) (pos v) ≡ pos (min h v)
+lower-is h v = by-test (ltb h v) _
+    (λ t. let l = ltb-lt h v t in let e : min h v ≡ h = omega arith in rw (t, e))
+    (λ t. let l = ltb-ge h v t in let e : min h v ≡ v = omega arith in rw (t, e))
+
+pub higher-is : (h v : ℕ) → cond (ltb h v) (pos v) (pos h) ≡ pos (max h v)
+higher-is h v = by-test (ltb h v) _
+    (λ t. let l = ltb-lt h v t in let e : max h v ≡ v = omega arith in rw (t, e))
+    (λ t. let l = ltb-ge h v t in let e : max h v ≡ h = omega arith in rw (t, e))
 
 pub outcome-equal : (h v : ℕ) → h ≡ v → equal ≡ outcome h v
 unfolding outcome
 outcome-equal h v e = rw (eqb-yes {m = h} {n = v} e)
 
-pub outcome-across : (h v : ℕ) → h < v → 17 * h < 10 * v → strong-across ≡ outcome h v
+pub outcome-unequal : (h v : ℕ) (x : Outcome) → ¬ (h ≡ v)
+    → x ≡ cond (ltb (17 * min h v) (10 * max h v)) (cond (ltb h v) strong-across strong-down) weak → x ≡ outcome h v
 unfolding outcome threshold
-outcome-across h v l s =
-    let a : min h v ≡ h = omega arith in
-    let b : max h v ≡ v = omega arith in
-    rw (not-equal h v (λ e. omega arith), a, b, ltb-yes {m = 17 * h} {n = 10 * v} s, ltb-yes {m = h} {n = v} l)
+outcome-unequal h v x o e =
+    let q : eqb h v ≡ false = by-test (eqb h v) _ (λ t. absurd (o (eqb-eq h v t))) (λ t. t) in
+    rw q e
 
-pub outcome-across-weak : (h v : ℕ) → h < v → 10 * v ≤ 17 * h → weak ≡ outcome h v
-unfolding outcome threshold
-outcome-across-weak h v l s =
-    let a : min h v ≡ h = omega arith in
-    let b : max h v ≡ v = omega arith in
-    rw (not-equal h v (λ e. omega arith), a, b, ltb-no {m = 17 * h} {n = 10 * v} s)
+-- a gradient, cast to an i32
+abbrev pub as-i32 : ℤ → ℤ
+as-i32 z = toZ w32 (ofZ w32 (toZ w64 (ofZ w64 z)))
 
-pub outcome-down : (h v : ℕ) → v < h → 17 * v < 10 * h → strong-down ≡ outcome h v
-unfolding outcome threshold
-outcome-down h v l s =
-    let a : min h v ≡ v = omega arith in
-    let b : max h v ≡ h = omega arith in
-    rw (not-equal h v (λ e. omega arith), a, b, ltb-yes {m = 17 * v} {n = 10 * h} s, ltb-no {m = h} {n = v} (omega arith))
+pub cast-fits : (z : ℤ) → natAbs z ≤ 40920 → SFits w32 (toZ w64 (ofZ w64 z))
+cast-fits z l = fits (search vals depth 30) tt
 
-pub outcome-down-weak : (h v : ℕ) → v < h → 10 * h ≤ 17 * v → weak ≡ outcome h v
-unfolding outcome threshold
-outcome-down-weak h v l s =
-    let a : min h v ≡ v = omega arith in
-    let b : max h v ≡ h = omega arith in
-    rw (not-equal h v (λ e. omega arith), a, b, ltb-no {m = 17 * v} {n = 10 * h} s)
+pub pair-fits : (x y : ℤ) → natAbs x ≤ 40920 → natAbs y ≤ 40920 → SFits w32 (as-i32 x +ℤ as-i32 y)
+pair-fits x y l m = fits (search vals depth 30) tt
 
--- a gradient as it is cast
-abbrev pub cast-at : List ℤ → ℕ → ℕ
-cast-at g k = natAbs (toZ w64 (ofZ w64 (getD g k (pos 0))))
+pub pair-is : (x y : ℤ) → natAbs x ≤ 40920 → natAbs y ≤ 40920 → pos 0 ≤ℤ x → pos 0 ≤ℤ y → as-i32 x +ℤ as-i32 y ≡ pos (natAbs x + natAbs y)
+pair-is x y l m h k = val (search vals depth 30) tt ∙ natural-sum x y h k
 
-module _ (g : List ℤ) (n : Naturals 40920 g) where
-  pub across-most : cast-at g 0 + cast-at g 1 ≤ 81840
-  across-most =
-      omega (
-        arith,
-        cast-value (getD g 0 (pos 0)) (n .most .east-most),
-        cast-value (getD g 1 (pos 0)) (n .most .west-most),
-        n .most .east-most,
-        n .most .west-most,
-      )
+-- a natural, k times as large
+pub times-fits : (k m : ℕ) (z : ℤ) → z ≡ pos m → k * m ≤ 2000000 → SFits w32 (pos k *ℤ z)
+times-fits k m z e l = rw e (record { sfits = omega arith })
 
-  pub down-most : cast-at g 2 + cast-at g 3 ≤ 81840
-  down-most =
-      omega (
-        arith,
-        cast-value (getD g 2 (pos 0)) (n .most .south-most),
-        cast-value (getD g 3 (pos 0)) (n .most .north-most),
-        n .most .south-most,
-        n .most .north-most,
-      )
+pub times-read : (k m : ℕ) (z : ℤ) → z ≡ pos m → k * m ≤ 2000000 → toZ w32 (ofZ w32 (pos k *ℤ z)) ≡ pos (k * m)
+times-read k m z e l = wrap-is w32 (times-fits k m z e l) (rw e refl)
 
-  pub first-pass-is : (x : Outcome) → x ≡ outcome (cast-at g 0 + cast-at g 1) (cast-at g 2 + cast-at g 3) → x ≡ first-pass (sizes (directions g))
-  unfolding first-pass
-  first-pass-is x e =
-      e
-      ∙ ap₂ outcome (ap₂ _+_ (cast-value (getD g 0 (pos 0)) (n .most .east-most)) (cast-value (getD g 1 (pos 0)) (n .most .west-most)))
-      (ap₂ _+_ (cast-value (getD g 2 (pos 0)) (n .most .south-most)) (cast-value (getD g 3 (pos 0)) (n .most .north-most)))
-
-pub larger : (h v : ℕ) → ¬ (h ≡ v) → v ≤ h → v < h
-larger h v o l = omega (arith, o)
+-- ---- what `settle` and `trial_row` form
 
 -- half of a sum of two i32 elements that were read
 pub sum-fits : (x y : ℤ) → natAbs x ≤ 8184 → natAbs y ≤ 8184 → SFits w32 (toZ w32 (ofZ w32 x) +ℤ toZ w32 (ofZ w32 y))

@@ -28,25 +28,32 @@ fn line(x: u16, g1: u16, g2: u16, x1: u16, x2: u16) -> i32
     4 * (g1 as i32 + g2 as i32) - 4 * x as i32 - 2 * (x1 as i32 + x2 as i32)
 }
 
-// gH and gV less 8·X at the columns c, c + 2, .. of the row at place 2: half rows a and b.
+// gH and gV less 8·X at the columns c, c + 2, .. of the row at entry at[2]: half rows a and b.
+// The entries are read before the loop, so that a row of sites is formed side by side.
 pub fn line_row(
-    rows: &[u16; 32896],
+    rows: &[u16; 98688],
+    at: [usize; 7],
     c: usize,
     a: &mut [i32; 2064],
     b: &mut [i32; 2064],
     count: usize,
 )
     requires { ⌜ (c ≤ 1) × (count ≤ 2048) × (length (now a) ≡ 2064) × (length (now b) ≡ 2064) ⌝ }
-    requires { ⌜ Small-rows (c + 2 * count + 9) (now rows) ⌝ }
+    requires { ⌜ Small-rows (c + 2 * count + 9) at (now rows) ⌝ }
     ensures { λ _. ⌜ Entries (pos 0) 2064 4 (count + 4)
-        (λ (x : ℕ). across-difference (now (rows .entry)) (c + 2 * (x - 4) + 8)) (now (a .exit)) ⌝ }
+        (λ (x : ℕ). across-difference at (now (rows .entry)) (c + 2 * (x - 4) + 8)) (now (a .exit)) ⌝ }
     ensures { λ _. ⌜ Entries (pos 0) 2064 4 (count + 4)
-        (λ (x : ℕ). down-difference (now (rows .entry)) (c + 2 * (x - 4) + 8)) (now (b .exit)) ⌝ }
+        (λ (x : ℕ). down-difference at (now (rows .entry)) (c + 2 * (x - 4) + 8)) (now (b .exit)) ⌝ }
 {
+    let two_up = at[0];
+    let up = at[1];
+    let own = at[2];
+    let down = at[3];
+    let two_down = at[4];
     let mut k = 0;
     while k < count {
         let j = c + 2 * k + 8;
-        let here = 8224 + j;
+        let here = own + j;
         let x = rows[here];
         a[k + 4] = line(
             x,
@@ -55,31 +62,38 @@ pub fn line_row(
             rows[here - 2],
             rows[here + 2],
         );
-        b[k + 4] = line(x, rows[4112 + j], rows[12336 + j], rows[j], rows[16448 + j]);
+        b[k + 4] = line(
+            x,
+            rows[up + j],
+            rows[down + j],
+            rows[two_up + j],
+            rows[two_down + j],
+        );
         k += 1;
     }
 }
 
 // The first pass's answer, from the four gradients.
+// Here and in `settle` the values are formed before the choice, so that a row of sites is decided side by side.
 pub fn decide(g: [i64; 4]) -> FirstPass
     requires { ⌜ Naturals 40920 g ⌝ }
     ensures { λ r. ⌜ outcome-of r ≡ first-pass (sizes (directions g)) ⌝ }
 {
-    let h = g[0] as u32 + g[1] as u32;
-    let v = g[2] as u32 + g[3] as u32;
-    if h == v {
-        return FirstPass::Equal;
-    }
-    if h < v {
-        if 17 * h < 10 * v {
-            return FirstPass::Across;
-        }
-        return FirstPass::Weak;
-    }
-    if 17 * v < 10 * h {
-        return FirstPass::Down;
-    }
-    FirstPass::Weak
+    let h = g[0] as i32 + g[1] as i32;
+    let v = g[2] as i32 + g[3] as i32;
+    let lower = if h < v { h } else { v };
+    let higher = if h < v { v } else { h };
+    let way = if h < v {
+        FirstPass::Across
+    } else {
+        FirstPass::Down
+    };
+    let unequal = if 17 * lower < 10 * higher {
+        way
+    } else {
+        FirstPass::Weak
+    };
+    if h == v { FirstPass::Equal } else { unequal }
 }
 
 // A direction's difference: that of the first pass, and its own at a weak site.
@@ -87,11 +101,17 @@ fn settle(o: FirstPass, a: i32, b: i32, own: i32) -> i32
     requires { ⌜ (natAbs a ≤ 8184) × (natAbs b ≤ 8184) ⌝ }
     ensures { λ r. ⌜ r ≡ settled o a b own ⌝ }
 {
-    match o {
-        FirstPass::Equal => (a + b) >> 1,
+    let straight = match o {
         FirstPass::Across => a,
-        FirstPass::Down => b,
+        _ => b,
+    };
+    let found = match o {
+        FirstPass::Equal => (a + b) >> 1,
+        _ => straight,
+    };
+    match o {
         FirstPass::Weak => own,
+        _ => found,
     }
 }
 

@@ -1,3 +1,4 @@
 pub mod FirstStage
+pub mod RingReads
 pub mod GradientRows
 pub mod TrialRows

@@ -12,6 +12,7 @@ use Rattle.method.specs.Gradients.{mosaic, gradients-at}
 use Rattle.method.specs.Four.{directions, sizes, listed}
 use Rattle.method.specs.Sizes.{listed-naturals}
 use Rattle.method.specs.Green.{Direction}
+use Rattle.positions.specs.Rings.{ring-row}
 use Rattle.positions.specs.HalfRows.{half-count, chroma-count, chroma-row}
 use Rattle.positions.specs.HalfRowLaws.{count-column, count-high, count-most, chroma-small}
 use Rattle.records.specs.Layout.{record-size, south-part}
@@ -25,61 +26,62 @@ use Rattle.first_pass.specs.Trials.{tried, site-trial, Trial-reads}
 use Rattle.first_pass.specs.FrameTrials.{loaded-small, across-of, down-of, trial-is}
 use Rattle.first_stage.specs.FirstStage.{Trials-read}
 
-pub start-low : (f : Frame) (i c : ℕ) (rows : List ℕ) (tops work : List ℤ) → Trials-read f i c rows tops work → c ≤ 1
-start-low f i c rows tops work r = rw (r .start) (chroma-small (f .phase) i)
+pub start-low : (f : Frame) (i base c : ℕ) (at rows : List ℕ) (tops work : List ℤ) → Trials-read f i base c at rows tops work → c ≤ 1
+start-low f i base c at rows tops work r = rw (r .start) (chroma-small (f .phase) i)
 
 -- the rows that the lines read
-pub lines-small : (f : Frame) (i c count : ℕ) (rows : List ℕ) (tops work : List ℤ) → Trials-read f i c rows tops work
-    → count ≡ half-count (f .width) c → Small-rows (c + 2 * count + 9) rows
+pub lines-small : (f : Frame) (i base c count : ℕ) (at rows : List ℕ) (tops work : List ℤ) → Trials-read f i base c at rows tops work
+    → count ≡ half-count (f .width) c → Small-rows (c + 2 * count + 9) at rows
 unfolding half-count
-lines-small f i c count rows tops work r e =
-    loaded-small f (i + 2) (c + 2 * count + 9) rows (r .lent .taken) (r .seven)
+lines-small f i base c count at rows tops work r e =
+    loaded-small f (i + 2) (c + 2 * count + 9) at rows (r .lent .taken) (r .seven)
     (omega (arith, r .lent .taken .wide, r .start, chroma-small (f .phase) i))
 
-module _ (f : Frame) (i c count east south : ℕ) (rows : List ℕ) (tops work n a b : List ℤ) (r : Trials-read f i c rows tops work)
-    (ec : count ≡ half-count (f .width) c) (ee : east ≡ i * record-size (f .width))
-    (es : south ≡ i * record-size (f .width) + south-part (f .width))
+module _ (f : Frame) (i base c count east south : ℕ) (at rows : List ℕ) (tops work n a b : List ℤ) (r : Trials-read f i base c at rows tops work)
+    (ec : count ≡ half-count (f .width) c) (ee : east ≡ ring-row i * record-size (f .width))
+    (es : south ≡ ring-row i * record-size (f .width) + south-part (f .width))
     (norths-row : Entries (pos 0) 2064 4 (count + 4) (λ (x : ℕ). north-entry tops work (f .width) i (0 + (x - 4))) n)
-    (across-row : Entries (pos 0) 2064 4 (count + 4) (λ (x : ℕ). across-difference rows (c + 2 * (x - 4) + 8)) a)
-    (down-row : Entries (pos 0) 2064 4 (count + 4) (λ (x : ℕ). down-difference rows (c + 2 * (x - 4) + 8)) b) where
+    (across-row : Entries (pos 0) 2064 4 (count + 4) (λ (x : ℕ). across-difference at rows (c + 2 * (x - 4) + 8)) a)
+    (down-row : Entries (pos 0) 2064 4 (count + 4) (λ (x : ℕ). down-difference at rows (c + 2 * (x - 4) + 8)) b) where
   count-is : count ≡ chroma-count f i
   count-is = ec ∙ chroma-count-is f i c (r .start)
 
   module _ (k : ℕ) (inside : k < count) where
     column-inside : c + 2 * k < f .width
-    column-inside = count-column (f .width) c k (start-low f i c rows tops work r) (omega arith)
+    column-inside = count-column (f .width) c k (start-low f i base c at rows tops work r) (omega arith)
 
     four-is : four-entries work east south n k ≡ listed (gradients-at (mosaic f) i (c + 2 * k))
     four-is =
         site-gradients-first f i tops work (r .gradients) n east south count 0 k ee es count-is refl norths-row (omega (arith, count-is))
         ∙ ap (λ (x : ℕ). listed (gradients-at (mosaic f) i (x + 2 * k))) (sym (r .start))
 
-    across-at : getD a (k + 4) (pos 0) ≡ across-difference rows (c + 2 * k + 8)
+    across-at : getD a (k + 4) (pos 0) ≡ across-difference at rows (c + 2 * k + 8)
     across-at =
         let back : k + 4 - 4 ≡ k = omega arith in
-        across-row .at (k + 4) (omega arith) (omega arith) ∙ ap (λ (x : ℕ). across-difference rows (c + 2 * x + 8)) back
+        across-row .at (k + 4) (omega arith) (omega arith) ∙ ap (λ (x : ℕ). across-difference at rows (c + 2 * x + 8)) back
 
-    down-at : getD b (k + 4) (pos 0) ≡ down-difference rows (c + 2 * k + 8)
+    down-at : getD b (k + 4) (pos 0) ≡ down-difference at rows (c + 2 * k + 8)
     down-at =
         let back : k + 4 - 4 ≡ k = omega arith in
-        down-row .at (k + 4) (omega arith) (omega arith) ∙ ap (λ (x : ℕ). down-difference rows (c + 2 * x + 8)) back
+        down-row .at (k + 4) (omega arith) (omega arith) ∙ ap (λ (x : ℕ). down-difference at rows (c + 2 * x + 8)) back
 
     across-size : natAbs (getD a (k + 4) (pos 0)) ≤ 8184
     across-size =
-        let s = across-reads (c + 2 * count + 9) (c + 2 * k + 8) rows (lines-small f i c count rows tops work r ec) (omega arith) (omega arith) in
+        let lines = lines-small f i base c count at rows tops work r ec in
+        let s = across-reads (c + 2 * count + 9) (c + 2 * k + 8) at rows lines (omega arith) (omega arith) in
         rw across-at (line-size _ _ _ _ _ (s .0) (s .1) (s .2) (s .3) (s .4))
 
     down-size : natAbs (getD b (k + 4) (pos 0)) ≤ 8184
     down-size =
-        let s = down-reads (c + 2 * count + 9) (c + 2 * k + 8) rows (lines-small f i c count rows tops work r ec) (omega arith) in
+        let s = down-reads (c + 2 * count + 9) (c + 2 * k + 8) at rows (lines-small f i base c count at rows tops work r ec) (omega arith) in
         rw down-at (line-size _ _ _ _ _ (s .0) (s .1) (s .2) (s .3) (s .4))
 
     trial-at : (d : Direction) → site-trial d work east south n a b k ≡ chroma-row f (trials f d) i k
     unfolding chroma-row trials
     trial-at d =
         ap (λ (g : List ℤ). tried d (sizes (directions g)) (getD a (k + 4) (pos 0)) (getD b (k + 4) (pos 0))) four-is
-        ∙ (same (across-at ∙ across-of f i (c + 2 * k) rows (r .seven) column-inside)
-        (down-at ∙ down-of f i (c + 2 * k) rows (r .seven) column-inside)
+        ∙ (same (across-at ∙ across-of f i (c + 2 * k) at rows (r .seven) column-inside)
+        (down-at ∙ down-of f i (c + 2 * k) at rows (r .seven) column-inside)
         ∙ (trial-is f d i (c + 2 * k) (r .lent .taken) (r .lent .inside) column-inside
         ∙ ap (λ (x : ℕ). trials f d i (x + 2 * k)) (r .start)))
       where
@@ -89,13 +91,13 @@ module _ (f : Frame) (i c count east south : ℕ) (rows : List ℕ) (tops work n
 
   pub trial-reads : Trial-reads east south count work n a b
   trial-reads =
-      let end = record-end f i tops work (r .lent) in
+      let end = record-end f i base tops work (r .lent) in
       let wide = r .lent .taken .wide in
       record {
         few = omega (arith, count-most (f .width) c (r .lent .taken .narrow));
         east-inside = omega (arith, end, wide, count-high (f .width) c);
         south-inside = omega (arith, end, wide, count-high (f .width) c);
-        work-most = work-most f i tops work (r .lent);
+        work-most = work-most f i base tops work (r .lent);
         gradients = λ k h. listed-naturals (gradients-at (mosaic f) i (c + 2 * k)) (four-is k h) (gradients-most f i (c + 2 * k) (r .lent .taken));
         across-small = across-size;
         down-small = down-size;

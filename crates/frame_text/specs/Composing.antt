@@ -1,12 +1,12 @@
 -- The text as it is composed: the lines of the first k sites, the heading before them, the planes from which they come. Assumes nothing.
-use mathlib.Core.Path.{_≡_, refl, sym, _∙_, ap}
-use mathlib.Core.List.{List, [], _∷_, _++_}
-use Prim.Native.Nat.{ℕ, suc, _+_, _*_, _/_, _%_, _<_, _≤_}
+use mathlib.Core.Path.{_≡_, refl, sym, _∙_}
+use mathlib.Core.List.{List, [], _∷_}
+use Prim.Native.Nat.{ℕ, _+_, _/_, _%_, _<_, _≤_}
 use native.Mathlib.Nat.{add-zero}
 use native.Mathlib.Numerals.{add-one}
 use native.Mathlib.Omega.{arith}
 use lib.IntN.{ℤ}
-use lib.ListN.{length, take, drop, length-append, take-append-drop}
+use lib.ListN.{length, length-append, take-append-drop}
 use Rattle.toolkit.specs.Tests.{eqb-yes}
 use Rattle.frame.specs.declared.Answer.{Answer}
 use Rattle.frame.specs.Calls.{clamp-answer, clamped, after}

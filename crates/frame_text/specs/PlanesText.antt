@@ -1,13 +1,13 @@
 -- The lines of three clamped planes, and that they are the lines of the frame. Assumes nothing.
-use mathlib.Core.Path.{_≡_, refl, sym, _∙_, ap, ap₂}
-use mathlib.Core.Bool.{Bool, true, false, cond}
+use mathlib.Core.Path.{_≡_, _∙_, ap}
+use mathlib.Core.Bool.{false}
 use mathlib.Core.List.{List, [], _∷_, _++_}
-use Prim.Native.Nat.{ℕ, zero, suc, _+_, _*_, _/_, _%_, _<_, _≤_}
-use native.Mathlib.Nat.{div-add-mod', le-refl}
+use Prim.Native.Nat.{ℕ, _*_, _/_, _%_, _≤_}
+use native.Mathlib.Nat.{div-add-mod'}
 use native.Mathlib.Omega.{arith}
 use lib.Dec.{T}
 use lib.IntN.{ℤ, pos, negsuc, natAbs}
-use lib.ListN.{length, getD, length-map, length-append, List·getD-map}
+use lib.ListN.{length, getD, length-map, List·getD-map}
 use lib.Signed.{nonNeg, ltZ}
 use mir.Syntax.{w32, w64}
 use mir.Val.{Fits, SFits, toZ, ofZ}
@@ -72,9 +72,6 @@ clamped-clamped l = record {
 pub cast-number : (z : ℤ) → SFits w32 z → T (nonNeg z) → natAbs z ≤ 1023
     → T (nonNeg (toZ w32 (ofZ w32 z))) × Fits w64 (natAbs (toZ w32 (ofZ w32 z)))
 cast-number z f low high = rw (toZ-ofZ f) (low, record { fits = omega arith })
-
-pub number-cast : (z : ℤ) → SFits w32 z → natAbs (toZ w32 (ofZ w32 z)) ≡ natAbs z
-number-cast z f = rw (toZ-ofZ f)
 
 -- ---- the planes that develop and clamp leave
 

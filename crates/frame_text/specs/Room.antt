@@ -1,6 +1,6 @@
 -- How much room the text takes: a heading of 23 bytes and at most 25 for each of 1,024 sites. Assumes nothing.
-use mathlib.Core.Path.{_≡_, refl, ap}
-use mathlib.Core.List.{List, _++_}
+use mathlib.Core.Path.{_≡_}
+use mathlib.Core.List.{List}
 use Prim.Native.Nat.{ℕ, zero, suc, _+_, _*_, _/_, _%_, _<_, _≤_}
 use native.Mathlib.Nat.{div-le-self, mod-le}
 use native.Mathlib.Omega.{arith}

@@ -4,7 +4,6 @@ use frame::ReadAnswer;
 use frame::Refusal;
 use frame::Shape;
 ghost use mathlib.Core.Path.{_≡_};
-ghost use mathlib.Core.List.{[], _∷_, _++_};
 ghost use Prim.Native.Nat.{_+_, _*_, _<_, _≤_};
 ghost use lib.ListN.{length};
 ghost use Rattle.frame.specs.Sites.{frame as frame-of};

@@ -13,7 +13,7 @@ use Rattle.positions.specs.Columns.{column-at}
 use Rattle.positions.specs.ColumnLaws.{column-inside}
 use Rattle.positions.specs.HalfRows.{chroma-start, half-count, chroma-count, chroma-row, Half}
 use Rattle.positions.specs.HalfRowLaws.{count-column, both-counts, chroma-small, chroma-even, chroma-odd}
-use Rattle.records.specs.Held.{Held}
+use Rattle.records.specs.Held.{Stands}
 
 -- ---- rows some way off: their numbers and parities
 
@@ -54,17 +54,17 @@ pub chroma-count-is : (f : Frame) (i c : ℕ) → c ≡ chroma-start (f .phase) 
 unfolding chroma-count
 chroma-count-is f i c e = ap (half-count (f .width)) e
 
-module _ (f : Frame) (s o lo hi : ℕ) (q : ℕ → ℕ → ℤ) (src : List ℤ) (wide : 2 ≤ f .width)
-    (held : Held s o (chroma-count f) lo hi (chroma-row f q) src) where
+module _ (f : Frame) (place : ℕ → ℕ) (s o lo hi : ℕ) (q : ℕ → ℕ → ℤ) (src : List ℤ) (wide : 2 ≤ f .width)
+    (held : Stands place s o (chroma-count f) lo hi (chroma-row f q) src) where
   -- entry k of row r
-  pub entry-of-row : (r k a : ℕ) → lo ≤ r → r < hi → k < chroma-count f r → a ≡ r * s + o
+  pub entry-of-row : (r k a : ℕ) → lo ≤ r → r < hi → k < chroma-count f r → a ≡ place r * s + o
       → getD src (a + k) (pos 0) ≡ q r (chroma-start (f .phase) r + 2 * k)
   unfolding chroma-row
   entry-of-row r k a l h n e = ap (λ (x : ℕ). getD src (x + k) (pos 0)) e ∙ held .row r l h k n
 
   -- row r, as `copy` leaves it
   pub half-of-row : (r c a n : ℕ) (row : List ℤ) → lo ≤ r → r < hi → c ≡ chroma-start (f .phase) r
-      → n ≡ half-count (f .width) c → a ≡ r * s + o → Entries (pos 0) 2064 4 (n + 4) (λ (x : ℕ). getD src (a + (x - 4)) (pos 0)) row
+      → n ≡ half-count (f .width) c → a ≡ place r * s + o → Entries (pos 0) 2064 4 (n + 4) (λ (x : ℕ). getD src (a + (x - 4)) (pos 0)) row
       → Half (f .width) c 4 (half-count (f .width) c + 4) (q r) row
   half-of-row r c a n row l h ec en ea copied = entries-as copied (omega arith) (omega arith) (λ x u v.
       let small : c ≤ 1 = rw ec (chroma-small (f .phase) r) in
@@ -76,7 +76,7 @@ module _ (f : Frame) (s o lo hi : ℕ) (q : ℕ → ℕ → ℤ) (src : List ℤ
 
   -- an entry read in place: row r is o' off row i
   pub row-near : (r i j k a : ℕ) (o' : ℤ) → r ≡ reflect (f .height) (pos i +ℤ o') → lo ≤ r → r < hi → k < chroma-count f r
-      → j ≡ chroma-start (f .phase) r + 2 * k → a ≡ r * s + o → getD src (a + k) (pos 0) ≡ around (f .height) (f .width) q i j o' (pos 0)
+      → j ≡ chroma-start (f .phase) r + 2 * k → a ≡ place r * s + o → getD src (a + k) (pos 0) ≡ around (f .height) (f .width) q i j o' (pos 0)
   unfolding around
   row-near r i j k a o' p l h n ej ea =
       let c : ℕ = chroma-start (f .phase) r in
@@ -86,7 +86,7 @@ module _ (f : Frame) (s o lo hi : ℕ) (q : ℕ → ℕ → ℤ) (src : List ℤ
 
   -- an even number of rows off: the columns of row i
   pub row-near-even : (r i k a : ℕ) (o' : ℤ) → r ≡ reflect (f .height) (pos i +ℤ o') → lo ≤ r → r < hi → r % 2 ≡ i % 2
-      → k < chroma-count f i → a ≡ r * s + o
+      → k < chroma-count f i → a ≡ place r * s + o
       → getD src (a + k) (pos 0) ≡ around (f .height) (f .width) q i (chroma-start (f .phase) i + 2 * k) o' (pos 0)
   row-near-even r i k a o' p l h e n ea =
       let c : chroma-start (f .phase) r ≡ chroma-start (f .phase) i = chroma-even (f .phase) i r e in
@@ -96,7 +96,7 @@ module _ (f : Frame) (s o lo hi : ℕ) (q : ℕ → ℕ → ℤ) (src : List ℤ
 
   -- an odd number of rows off: the green columns of row i
   pub row-near-odd : (r i k a : ℕ) (o' : ℤ) → r ≡ reflect (f .height) (pos i +ℤ o') → lo ≤ r → r < hi → r % 2 ≡ (i + 1) % 2
-      → k < f .width - chroma-count f i → a ≡ r * s + o
+      → k < f .width - chroma-count f i → a ≡ place r * s + o
       → getD src (a + k) (pos 0) ≡ around (f .height) (f .width) q i (1 - chroma-start (f .phase) i + 2 * k) o' (pos 0)
   row-near-odd r i k a o' p l h e n ea =
       let c : chroma-start (f .phase) r ≡ 1 - chroma-start (f .phase) i = chroma-odd (f .phase) i r e in

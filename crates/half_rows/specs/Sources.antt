@@ -7,6 +7,7 @@ use lib.Dec.{ltb}
 use lib.IntN.{ℤ, pos}
 use lib.ListN.{length, getD}
 use Rattle.positions.specs.Columns.{column-at}
+use Rattle.positions.specs.Rings.{ring-row, Round}
 use Rattle.records.specs.Layout.{record-size, south-part, top-size}
 
 -- the entry of a half row that holds the column of entry x, reflected
@@ -16,7 +17,7 @@ source-entry W c x = (column-at W (c + 2 * x) - c) / 2 + 4
 -- entry k of N of row i, in halves: that of S of row i − 2, and for the rows 0 and 1 that of tops
 unfoldable pub north-entry : List ℤ → List ℤ → ℕ → ℕ → ℕ → ℤ
 north-entry tops work W i k =
-    cond (ltb i 2) (getD tops (i * top-size + k) (pos 0)) (getD work ((i - 2) * record-size W + south-part W + k) (pos 0))
+    cond (ltb i 2) (getD tops (i * top-size + k) (pos 0)) (getD work (ring-row (i - 2) * record-size W + south-part W + k) (pos 0))
 
 -- E, W, S, N of site k of a half row: its E stands from entry east on, two columns west, its S from entry south on, its N in n
 abbrev pub four-entries : List ℤ → ℕ → ℕ → List ℤ → ℕ → List ℤ
@@ -24,10 +25,11 @@ four-entries work east south n k =
     getD work (east + k + 1) (pos 0) ∷ getD work (east + k) (pos 0) ∷ getD work (south + k) (pos 0) ∷ getD n (k + 4) (pos 0) ∷ []
 
 -- what `north` is lent: tops, the records of the rows before row i, and a half row for the entries at to at + count − 1 of row i
-pub record North-room (W i at count : ℕ) (tops work n : List ℤ) : Type 0 where
+pub record North-room (W i base at count : ℕ) (tops work n : List ℤ) : Type 0 where
   pub wide : 2 ≤ W
   pub narrow : W ≤ 4096
   pub low : i ≤ 4096
+  pub round : Round base (i - 4) (i + 4)
   pub inside : at + count ≤ W
   pub few : count ≤ 2048
   pub tops-size : length tops ≡ 2 * top-size

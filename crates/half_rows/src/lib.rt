@@ -65,18 +65,19 @@ pub fn north(
     work: &[i32],
     w: usize,
     i: usize,
+    base: usize,
     at: usize,
     count: usize,
     n: &mut [i32; 2064],
 )
-    requires { ⌜ North-room w i at count (now tops) (now work) (now n) ⌝ }
+    requires { ⌜ North-room w i base at count (now tops) (now work) (now n) ⌝ }
     ensures { λ _. ⌜ Entries (pos 0) 2064 4 (count + 4)
         (λ (x : ℕ). north-entry (now (tops .entry)) (now (work .entry)) w i (at + (x - 4))) (now (n .exit)) ⌝ }
 {
     if i < 2 {
         copy(tops, i * 4112 + at, count, n);
     } else {
-        copy(work, records::south_at(w, i - 2) + at, count, n);
+        copy(work, records::south_at(w, i - 2, base) + at, count, n);
     }
 }
 

@@ -1,7 +1,7 @@
 -- An entry of a loaded row is the reflected sample around a site. Assumes nothing.
 use mathlib.Core.Path.{_≡_, _∙_, ap, subst}
 use mathlib.Core.List.{List}
-use Prim.Native.Nat.{ℕ, _+_, _*_, _<_}
+use Prim.Native.Nat.{ℕ, _+_, _<_}
 use native.Mathlib.Omega.{arith}
 use lib.IntN.{ℤ, pos, _+ℤ_, subℕ}
 use lib.ListN.{getD}
@@ -10,7 +10,7 @@ use Rattle.frame.specs.Sites.{Frame, sample, reflect, Around, around}
 use Rattle.positions.specs.Columns.{column-at}
 use Rattle.mosaic_rows.specs.LoadedRows.{Loaded, Seven}
 
--- where row i + 2 is at place 4, place p is p − 2 rows down from row i
+-- the p-th of the rows i − 2 to i + 4, from 0, is p − 2 rows down from row i
 pub row-off : (i p : ℕ) → subℕ (i + 2 + p) 4 ≡ pos i +ℤ subℕ p 2
 row-off i p = simp to-naturals (omega arith)
 
@@ -29,8 +29,8 @@ module _ (f : Frame) (i j : ℕ) (r o : ℤ) where
   loaded-around at x rows l h e =
       ap pos (l .entry x h) ∙ ap (λ (y : ℤ). pos (sample f (reflect (f .height) (pos i +ℤ r)) (reflect (f .width) y))) e
 
-  -- of the rows x − 4 to x + 2, that at place p is row i + r
-  pub seven-around : (x p k : ℕ) (rows : List ℕ) → Seven f x rows → p < 7 → k < f .width + 16 → subℕ (x + p) 4 ≡ pos i +ℤ r
-      → subℕ k 8 ≡ pos j +ℤ o → pos (getD rows (p * 4112 + k) 0) ≡ frame-around f i j r o
-  seven-around x p k rows s h l e =
-      loaded-around (p * 4112) k rows (subst (λ (y : ℤ). Loaded f (reflect (f .height) y) (p * 4112) rows) e (s .place p h)) l
+  -- of the rows x − 4 to x + 2, the p-th is row i + r
+  pub seven-around : (x p k : ℕ) (at rows : List ℕ) → Seven f x at rows → p < 7 → k < f .width + 16 → subℕ (x + p) 4 ≡ pos i +ℤ r
+      → subℕ k 8 ≡ pos j +ℤ o → pos (getD rows (getD at p 0 + k) 0) ≡ frame-around f i j r o
+  seven-around x p k at rows s h l e =
+      loaded-around (getD at p 0) k rows (subst (λ (y : ℤ). Loaded f (reflect (f .height) y) (getD at p 0) rows) e (s .place p h)) l

@@ -1,4 +1,5 @@
 pub mod Woven
 pub mod RowPlaces
+pub mod PlaceLaws
 pub mod DirectMeans
 pub mod MeanLaws

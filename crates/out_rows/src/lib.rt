@@ -10,6 +10,7 @@ ghost use Rattle.toolkit.specs.Writes.{Wrote};
 ghost use Rattle.method.specs.Four.{directions, sizes};
 ghost use Rattle.method.specs.Planes.{weighted-mean, final-round};
 ghost use Rattle.method.specs.Sizes.{At-most, Naturals};
+ghost use Rattle.positions.specs.Rings.{Round};
 ghost use Rattle.out_rows.specs.Woven.{woven};
 ghost use Rattle.out_rows.specs.RowPlaces.{Row-of, Placed};
 ghost use Rattle.out_rows.specs.DirectMeans.{Bounded, own-mean, other-mean, Direct-reads};
@@ -35,9 +36,9 @@ pub struct Places {
     pub above: Differences,
 }
 
-// The places of row i.
-pub fn row_places(shape: Shape, i: usize) -> Places
-    requires { ⌜ Row-of shape i ⌝ }
+// The places of row i; base is a row at place 0 of the records' ring.
+pub fn row_places(shape: Shape, i: usize, base: usize) -> Places
+    requires { ⌜ (Row-of shape i) × (Round base (i - 4) (i + 4)) ⌝ }
     ensures { λ r. ⌜ Placed shape i r ⌝ }
 {
     let w = shape.width;
@@ -47,23 +48,23 @@ pub fn row_places(shape: Shape, i: usize) -> Places
     let down = positions::reflected(h, i + 1);
     let up = positions::reflected_less(h, i, 1);
     let here = Differences {
-        finals: records::final_at(w, i),
-        others: records::other_at(w, i),
+        finals: records::final_at(w, i, base),
+        others: records::other_at(w, i, base),
     };
     let below = Differences {
-        finals: records::final_at(w, down),
-        others: records::other_at(w, down),
+        finals: records::final_at(w, down, base),
+        others: records::other_at(w, down, base),
     };
     let above = Differences {
-        finals: records::final_at(w, up),
-        others: records::other_at(w, up),
+        finals: records::final_at(w, up, base),
+        others: records::other_at(w, up, base),
     };
     Places {
         start: start,
         count: count,
         rest: w - count,
-        east: records::record_at(w, i) + (count + 1),
-        south: records::south_at(w, i) + count,
+        east: records::record_at(w, i, base) + (count + 1),
+        south: records::south_at(w, i, base) + count,
         here: here,
         below: below,
         above: above,
@@ -77,9 +78,10 @@ fn whole(x: u16) -> i32
 }
 
 // The samples at the columns c, c + 2, .. of the row that is loaded at entry at.
-pub fn samples(rows: &[u16; 32896], at: usize, c: usize, count: usize, dst: &mut [i32; 2064])
-    requires { ⌜ (c ≤ 1) × (count ≤ 2048) × (at + 4112 ≤ 32896) × (length (now dst) ≡ 2064) ⌝ }
-    ensures { λ _. ⌜ Entries (pos 0) 2064 4 (count + 4) (λ (x : ℕ). pos (getD (now (rows .entry)) (at + (c + 2 * (x - 4) + 8)) 0)) (now (dst .exit)) ⌝ }
+pub fn samples(rows: &[u16; 98688], at: usize, c: usize, count: usize, dst: &mut [i32; 2064])
+    requires { ⌜ (c ≤ 1) × (count ≤ 2048) × (at + 4112 ≤ 98688) × (length (now dst) ≡ 2064) ⌝ }
+    ensures { λ _. ⌜ Entries (pos 0) 2064 4 (count + 4) (λ (x : ℕ). pos (getD (now (rows .entry)) (at + (c + 2 * (x - 4) + 8)) 0))
+        (now (dst .exit)) ⌝ }
 {
     let mut k = 0;
     while k < count {
@@ -109,8 +111,10 @@ pub fn direct_means(
 )
     requires { ⌜ Direct-reads p (now work) (now n) (now own) (now other) ⌝ }
     requires { ⌜ (length (now x) ≡ 2064) × (length (now y) ≡ 2064) ⌝ }
-    ensures { λ _. ⌜ Entries (pos 0) 2064 4 (p .rest + 4) (λ (k : ℕ). own-mean p (now (work .entry)) (now (n .entry)) (now (own .entry)) (k - 4)) (now (x .exit)) ⌝ }
-    ensures { λ _. ⌜ Entries (pos 0) 2064 4 (p .rest + 4) (λ (k : ℕ). other-mean p (now (work .entry)) (now (n .entry)) (now (other .entry)) (k - 4)) (now (y .exit)) ⌝ }
+    ensures { λ _. ⌜ Entries (pos 0) 2064 4 (p .rest + 4) (λ (k : ℕ). own-mean p (now (work .entry)) (now (n .entry))
+        (now (own .entry)) (k - 4)) (now (x .exit)) ⌝ }
+    ensures { λ _. ⌜ Entries (pos 0) 2064 4 (p .rest + 4) (λ (k : ℕ). other-mean p (now (work .entry)) (now (n .entry))
+        (now (other .entry)) (k - 4)) (now (y .exit)) ⌝ }
 {
     let start = p.start;
     let rest = p.rest;
@@ -146,7 +150,8 @@ pub fn direct_means(
 // A colour at green sites: 4·G less its difference, which m holds, as an output.
 pub fn green_sites(z: &[i32; 2064], m: &mut [i32; 2064], count: usize)
     requires { ⌜ (count ≤ 2048) × (length (now m) ≡ 2064) × (Bounded 4096 count (now z)) × (Bounded 4096 count (now m)) ⌝ }
-    ensures { λ _. ⌜ Entries (pos 0) 2064 4 (count + 4) (λ (x : ℕ). final-round (pos 4 *ℤ getD (now (z .entry)) x (pos 0) -ℤ getD (now (m .entry)) x (pos 0))) (now (m .exit)) ⌝ }
+    ensures { λ _. ⌜ Entries (pos 0) 2064 4 (count + 4) (λ (x : ℕ). final-round (pos 4 *ℤ getD (now (z .entry)) x (pos 0) -ℤ getD
+        (now (m .entry)) x (pos 0))) (now (m .exit)) ⌝ }
 {
     let mut k = 4;
     while k < count + 4 {
@@ -166,8 +171,10 @@ pub fn chroma_sites(
 )
     requires { ⌜ (count ≤ 2048) × (length (now g) ≡ 2064) × (length (now y) ≡ 2064) ⌝ }
     requires { ⌜ (Bounded 4096 count (now own)) × (Bounded 4096 count (now other)) × (Bounded 4096 count (now z)) ⌝ }
-    ensures { λ _. ⌜ Entries (pos 0) 2064 4 (count + 4) (λ (x : ℕ). final-round (getD (now (own .entry)) x (pos 0) +ℤ pos 4 *ℤ getD (now (z .entry)) x (pos 0))) (now (g .exit)) ⌝ }
-    ensures { λ _. ⌜ Entries (pos 0) 2064 4 (count + 4) (λ (x : ℕ). final-round (getD (now (own .entry)) x (pos 0) +ℤ pos 4 *ℤ getD (now (z .entry)) x (pos 0) -ℤ getD (now (other .entry)) x (pos 0))) (now (y .exit)) ⌝ }
+    ensures { λ _. ⌜ Entries (pos 0) 2064 4 (count + 4) (λ (x : ℕ). final-round (getD (now (own .entry)) x (pos 0) +ℤ pos 4 *ℤ getD
+        (now (z .entry)) x (pos 0))) (now (g .exit)) ⌝ }
+    ensures { λ _. ⌜ Entries (pos 0) 2064 4 (count + 4) (λ (x : ℕ). final-round (getD (now (own .entry)) x (pos 0) +ℤ pos 4 *ℤ getD
+        (now (z .entry)) x (pos 0) -ℤ getD (now (other .entry)) x (pos 0))) (now (y .exit)) ⌝ }
 {
     let mut k = 4;
     while k < count + 4 {

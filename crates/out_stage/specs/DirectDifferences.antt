@@ -18,7 +18,8 @@ use Rattle.positions.specs.Taken.{Taken}
 use Rattle.positions.specs.HalfRows.{chroma-start, half-count}
 use Rattle.records.specs.Layout.{record-size, final-part, other-part}
 use Rattle.records.specs.Quantities.{finals, others}
-use Rattle.out_stage.specs.RowColours.{row-colour, second-half-green, beside-colour, off-colour}
+use Rattle.records.specs.SiteColours.{row-colour, second-half-green}
+use Rattle.out_stage.specs.RowColours.{beside-colour, off-colour}
 use Rattle.out_stage.specs.SiteOutputs.{mean-difference}
 
 -- ---- sizes
@@ -46,14 +47,6 @@ pub green-column : (c k : ℕ) → c ≤ 1 → ¬ ((1 - c + 2 * k) % 2 ≡ c)
 green-column c k l e = omega arith
 
 -- a part of a record holds the differences of half a row
-pub first-room : (W c : ℕ) → half-count W c ≤ (W + 1) / 2
-unfolding half-count
-first-room W c = omega arith
-
-pub second-room : (W c : ℕ) → c ≤ 1 → W - half-count W c ≤ (W + 1) / 2
-unfolding half-count
-second-room W c l = omega arith
-
 pub final-room : (W n s r : ℕ) → 2 ≤ W → n ≤ (W + 1) / 2 → r * record-size W + record-size W ≤ s → r * record-size W + final-part W + n ≤ s
 final-room W n s r w l h = omega arith
 

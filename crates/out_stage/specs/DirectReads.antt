@@ -7,8 +7,8 @@ use native.Mathlib.Omega.{arith}
 use lib.IntN.{ℤ, pos, negℤ, _+ℤ_, subℕ}
 use lib.ListN.{length}
 use Rattle.toolkit.specs.Entries.{Entries}
-use Rattle.frame.specs.Sites.{Colour, red, green, blue, frame, reflect}
-use Rattle.frame.specs.Colours.{trade}
+use Rattle.frame.specs.Sites.{frame, reflect}
+use Rattle.frame.specs.Colours.{trade, trade-twice}
 use Rattle.frame.specs.declared.Shape.{Shape}
 use Rattle.frame.specs.Reflection.{reflect-here, reflect-lt}
 use Rattle.method.specs.Gradients.{FourDirections, mosaic, gradients-at}
@@ -17,29 +17,25 @@ use Rattle.method.specs.ColourLaws.{directions-path}
 use Rattle.method.specs.Planes.{weighted-mean, colour-difference}
 use Rattle.method.specs.Sizes.{At-most, listed-naturals}
 use Rattle.positions.specs.Taken.{Taken}
+use Rattle.positions.specs.Rings.{ring-row}
+use Rattle.positions.specs.RingLaws.{ring-end}
 use Rattle.positions.specs.HalfRows.{chroma-start, half-count, chroma-count, chroma-row}
-use Rattle.positions.specs.HalfRowLaws.{chroma-small, count-high}
+use Rattle.positions.specs.HalfRowLaws.{chroma-small, count-high, count-half, rest-half}
 use Rattle.positions.specs.Near.{near-south, near-north}
-use Rattle.positions.specs.Places.{row-end}
 use Rattle.records.specs.Layout.{record-size, final-part, other-part}
-use Rattle.records.specs.Held.{Held}
+use Rattle.records.specs.Held.{Kept}
 use Rattle.records.specs.Quantities.{finals, others}
 use Rattle.records.specs.Stages.{Lent, Out-reads}
+use Rattle.records.specs.SiteColours.{row-colour}
 use Rattle.half_rows.specs.Near.{north-step, north-odd, south-odd, half-around, chroma-count-is, row-near-odd}
 use Rattle.half_rows.specs.Sources.{north-entry, four-entries}
 use Rattle.half_rows.specs.SiteGradients.{gradients-most, record-end, work-most, site-gradients-second}
 use Rattle.out_rows.specs.declared.Places.{Places}
 use Rattle.out_rows.specs.RowPlaces.{Placed}
 use Rattle.out_rows.specs.DirectMeans.{beside-values, own-values, other-values, own-mean, other-mean, Direct-reads}
-use Rattle.out_stage.specs.RowColours.{row-colour}
 use Rattle.out_stage.specs.SiteOutputs.{own-difference, other-difference}
 use Rattle.out_stage.specs.OutRows.{Wide-half}
-use Rattle.out_stage.specs.DirectDifferences.{finals-size, others-size, east-step, west-step, beside-room, green-column, first-room, second-room, final-room, other-room, four-beside, four-beside-size, mean-beside}
-
-pub trade-twice : (c : Colour) → c ≡ trade (trade c)
-trade-twice red = refl
-trade-twice green = refl
-trade-twice blue = refl
+use Rattle.out_stage.specs.DirectDifferences.{finals-size, others-size, east-step, west-step, beside-room, green-column, final-room, other-room, four-beside, four-beside-size, mean-beside}
 
 -- ---- the places of a row
 module _ (shape : Shape) (zs : List ℕ) (i : ℕ) (p : Places) (placed : Placed shape i p) where
@@ -55,17 +51,17 @@ module _ (shape : Shape) (zs : List ℕ) (i : ℕ) (p : Places) (placed : Placed
   rest-other : p .rest ≡ shape .width - half-count (shape .width) (p .start)
   rest-other = placed .rest-is ∙ ap (λ (k : ℕ). shape .width - k) (placed .count-is)
 
-  rest-half : p .rest ≤ (shape .width + 1) / 2
-  rest-half = rw rest-other (second-room (shape .width) (p .start) start-small)
+  rest-room : p .rest ≤ (shape .width + 1) / 2
+  rest-room = rw rest-other (rest-half (shape .width) (p .start) start-small)
 
-  count-half : p .count ≤ (shape .width + 1) / 2
-  count-half = rw (placed .count-is) (first-room (shape .width) (p .start))
+  count-room : p .count ≤ (shape .width + 1) / 2
+  count-room = rw (placed .count-is) (count-half (shape .width) (p .start))
 
   pub count-few : shape .width ≤ 4096 → p .count ≤ 2048
-  count-few h = omega (arith, count-half)
+  count-few h = omega (arith, count-room)
 
   pub rest-few : shape .width ≤ 4096 → p .rest ≤ 2048
-  rest-few h = omega (arith, rest-half)
+  rest-few h = omega (arith, rest-room)
 
   count-inside : p .count ≤ shape .width
   count-inside = rw (placed .count-is) (count-high (shape .width) (p .start))
@@ -73,34 +69,34 @@ module _ (shape : Shape) (zs : List ℕ) (i : ℕ) (p : Places) (placed : Placed
   pub both-inside : p .count + p .rest ≤ shape .width
   both-inside = omega (arith, placed .rest-is, count-inside)
 
-  module _ (tops work : List ℤ) (reads : Out-reads (frame shape zs) i tops work) where
-    abbrev lent : Lent (frame shape zs) i tops work
+  module _ (base : ℕ) (tops work : List ℤ) (reads : Out-reads (frame shape zs) i base tops work) where
+    abbrev lent : Lent (frame shape zs) i base tops work
     lent = reads .reads .lent
 
     abbrev taken : Taken (frame shape zs)
     taken = lent .taken
 
     -- the record of any row lies in work
-    row-room : (r : ℕ) → r < shape .height → r * record-size (shape .width) + record-size (shape .width) ≤ length work
-    row-room r h = omega (arith, lent .work-size, row-end (shape .height) (record-size (shape .width)) r h)
+    row-room : (r : ℕ) → r < shape .height → ring-row r * record-size (shape .width) + record-size (shape .width) ≤ length work
+    row-room r h = omega (arith, lent .work-size, ring-end (shape .height) (record-size (shape .width)) r h)
 
     in-frame : (x : ℤ) → reflect (shape .height) x < shape .height
     in-frame x = reflect-lt (shape .height) x (taken .tall)
 
     -- the differences of the row itself
     pub finals-inside : p .here .finals + p .count ≤ length work
-    finals-inside = rw (placed .finals-is) (final-room (shape .width) (p .count) _ i (taken .wide) count-half (row-room i (lent .inside)))
+    finals-inside = rw (placed .finals-is) (final-room (shape .width) (p .count) _ (ring-row i) (taken .wide) count-room (row-room i (lent .inside)))
 
     pub others-inside : p .here .others + p .count ≤ length work
-    others-inside = rw (placed .others-is) (other-room (shape .width) (p .count) _ i (taken .wide) count-half (row-room i (lent .inside)))
+    others-inside = rw (placed .others-is) (other-room (shape .width) (p .count) _ (ring-row i) (taken .wide) count-room (row-room i (lent .inside)))
 
     -- the values beside green site k, of q in row i and of q' in the rows one off, read from entry o of their records on
     beside-are : (q q' : ℕ → ℕ → ℤ) (row : List ℤ) (o south north k : ℕ)
         → Wide-half (shape .width) p (q i) row
-        → Held (record-size (shape .width)) o (chroma-count (frame shape zs)) (i - 1) (min (i + 2) (shape .height))
+        → Kept (record-size (shape .width)) o (chroma-count (frame shape zs)) (i - 1) (min (i + 2) (shape .height))
         (chroma-row (frame shape zs) q') work
-        → south ≡ reflect (shape .height) (pos (i + 1)) * record-size (shape .width) + o
-        → north ≡ reflect (shape .height) (subℕ i 1) * record-size (shape .width) + o → k < p .rest
+        → south ≡ ring-row (reflect (shape .height) (pos (i + 1))) * record-size (shape .width) + o
+        → north ≡ ring-row (reflect (shape .height) (subℕ i 1)) * record-size (shape .width) + o → k < p .rest
         → directions (beside-values row (p .start) work south north k) ≡
         four-beside (frame shape zs) q q' i (1 - chroma-start (shape .phase) i + 2 * k)
     beside-are q q' row o south north k half held es en l =
@@ -116,10 +112,10 @@ module _ (shape : Shape) (zs : List ℕ) (i : ℕ) (p : Places) (placed : Placed
         (omega (arith, start-small)) room here (east-step (p .start) (chroma-start (shape .phase) i) k (placed .start-is) start-small))
         (half-around H W (p .start) 3 (half-count W (p .start) + 4 + 1) q row i half (k + 4 - p .start) i j (pos 0) (negℤ (pos 1))
         (omega (arith, start-small)) (omega arith) here (west-step (p .start) (chroma-start (shape .phase) i) k (placed .start-is) start-small))
-        (row-near-odd (frame shape zs) (record-size W) o (i - 1) (min (i + 2) H) q' work (taken .wide) held
+        (row-near-odd (frame shape zs) ring-row (record-size W) o (i - 1) (min (i + 2) H) q' work (taken .wide) held
         (reflect H (pos (i + 1))) i k south (pos 1) refl (s .0) (omega (arith, s .1, s .2))
         (south-odd H i (taken .tall)) (omega (arith, rest-green)) es)
-        (row-near-odd (frame shape zs) (record-size W) o (i - 1) (min (i + 2) H) q' work (taken .wide) held
+        (row-near-odd (frame shape zs) ring-row (record-size W) o (i - 1) (min (i + 2) H) q' work (taken .wide) held
         (reflect H (subℕ i 1)) i k north (negℤ (pos 1)) (ap (reflect H) (north-step i 1)) (u .0) (omega (arith, u .1, u .2))
         (north-odd H i (taken .tall)) (omega (arith, rest-green)) en)
 
@@ -130,8 +126,8 @@ module _ (shape : Shape) (zs : List ℕ) (i : ℕ) (p : Places) (placed : Placed
       gradients-are : (k : ℕ) → k < p .rest
           → four-entries work (p .east) (p .south) n k ≡ listed (gradients-at (mosaic (frame shape zs)) i (1 - chroma-start (shape .phase) i + 2 * k))
       gradients-are k l = site-gradients-second (frame shape zs) i tops work (reads .reads .gradients) n (p .east) (p .south) (p .rest) (p .count) k
-          (placed .east-is ∙ ap (λ (x : ℕ). i * record-size (shape .width) + (x + 1)) count-chroma)
-          (placed .south-is ∙ ap (λ (x : ℕ). i * record-size (shape .width) + (shape .width + 2) + x) count-chroma)
+          (placed .east-is ∙ ap (λ (x : ℕ). ring-row i * record-size (shape .width) + (x + 1)) count-chroma)
+          (placed .south-is ∙ ap (λ (x : ℕ). ring-row i * record-size (shape .width) + (shape .width + 2) + x) count-chroma)
           rest-green count-chroma norths (omega (arith, rest-green))
 
       own-beside : (k : ℕ) → k < p .rest
@@ -153,13 +149,13 @@ module _ (shape : Shape) (zs : List ℕ) (i : ℕ) (p : Places) (placed : Placed
       direct-reads = record {
         few = rest-few (taken .narrow);
         start-small = start-small;
-        east-inside = omega (arith, placed .east-is, placed .rest-is, count-inside, record-end _ _ _ _ lent, taken .wide);
-        south-inside = omega (arith, placed .south-is, placed .rest-is, count-inside, record-end _ _ _ _ lent, taken .wide);
-        finals-south-inside = rw (placed .finals-south-is) (final-room (shape .width) (p .rest) _ _ (taken .wide) rest-half (row-room _ (in-frame _)));
-        finals-north-inside = rw (placed .finals-north-is) (final-room (shape .width) (p .rest) _ _ (taken .wide) rest-half (row-room _ (in-frame _)));
-        others-south-inside = rw (placed .others-south-is) (other-room (shape .width) (p .rest) _ _ (taken .wide) rest-half (row-room _ (in-frame _)));
-        others-north-inside = rw (placed .others-north-is) (other-room (shape .width) (p .rest) _ _ (taken .wide) rest-half (row-room _ (in-frame _)));
-        work-most = work-most _ _ _ _ lent;
+        east-inside = omega (arith, placed .east-is, placed .rest-is, count-inside, record-end _ _ _ _ _ lent, taken .wide);
+        south-inside = omega (arith, placed .south-is, placed .rest-is, count-inside, record-end _ _ _ _ _ lent, taken .wide);
+        finals-south-inside = rw (placed .finals-south-is) (final-room (shape .width) (p .rest) _ _ (taken .wide) rest-room (row-room _ (in-frame _)));
+        finals-north-inside = rw (placed .finals-north-is) (final-room (shape .width) (p .rest) _ _ (taken .wide) rest-room (row-room _ (in-frame _)));
+        others-south-inside = rw (placed .others-south-is) (other-room (shape .width) (p .rest) _ _ (taken .wide) rest-room (row-room _ (in-frame _)));
+        others-north-inside = rw (placed .others-north-is) (other-room (shape .width) (p .rest) _ _ (taken .wide) rest-room (row-room _ (in-frame _)));
+        work-most = work-most _ _ _ _ _ lent;
         gradients = λ k l. listed-naturals _ (gradients-are k l) (gradients-most (frame shape zs) i _ taken);
         own-small = λ k l. subst (λ (v : FourDirections ℤ). At-most 4096 (sizes v)) (sym (own-beside k l))
             (four-beside-size (frame shape zs) taken _ _ i _ (finals-size (frame shape zs) taken) (others-size (frame shape zs) taken));
@@ -186,4 +182,4 @@ module _ (shape : Shape) (zs : List ℕ) (i : ℕ) (p : Places) (placed : Placed
           let f = frame shape zs in
           ap₂ weighted-mean (other-beside k l) (ap (λ (g : List ℤ). sizes (directions g)) (gradients-are k l))
           ∙ mean-beside f taken (trade (row-colour (shape .phase) i)) (others f) (finals f) i _ (green-column _ k (chroma-small (shape .phase) i))
-          (λ a b e. other-difference f _ a b (e ∙ trade-twice (row-colour (shape .phase) i))) (λ a b e. own-difference (mosaic f) _ a b e)
+          (λ a b e. other-difference f _ a b (e ∙ sym (trade-twice (row-colour (shape .phase) i)))) (λ a b e. own-difference (mosaic f) _ a b e)

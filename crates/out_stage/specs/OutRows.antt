@@ -4,7 +4,7 @@
 -- colour, green, the other colour) and in zg, x and y (green sites: green, the row's colour, the other colour).
 use mathlib.Core.Path.{_≡_}
 use mathlib.Core.List.{List}
-use Prim.Native.Nat.{ℕ, _+_, _*_, _-_}
+use Prim.Native.Nat.{ℕ, _+_, _*_, _-_, _<_}
 use lib.IntN.{ℤ, pos}
 use lib.ListN.{length, getD}
 use Rattle.toolkit.specs.Entries.{Entries}
@@ -14,13 +14,16 @@ use Rattle.frame.specs.Colours.{trade}
 use Rattle.frame.specs.declared.Shape.{Shape}
 use Rattle.method.specs.Gradients.{mosaic}
 use Rattle.method.specs.Planes.{colour-difference}
+use Rattle.positions.specs.Taken.{Taken}
+use Rattle.positions.specs.Rings.{ring-row}
 use Rattle.positions.specs.HalfRows.{chroma-start, half-count, chroma-count, Half}
 use Rattle.records.specs.Quantities.{finals, others, outputs}
 use Rattle.records.specs.Stages.{Out-reads}
+use Rattle.records.specs.SiteColours.{row-colour}
+use Rattle.mosaic_rows.specs.LoadedRows.{Loaded}
 use Rattle.half_rows.specs.Sources.{source-entry}
 use Rattle.out_rows.specs.declared.Places.{Places}
 use Rattle.out_rows.specs.RowPlaces.{Row-of}
-use Rattle.out_stage.specs.RowColours.{row-colour}
 
 -- a quantity of the red and blue sites of row i, and of its green sites
 abbrev pub Chroma-half : Frame → ℕ → (ℕ → ℕ → ℤ) → List ℤ → Type 0
@@ -54,8 +57,19 @@ pub record Row-outputs (f : Frame) (i : ℕ) (zx zg xg xo x y : List ℤ) : Type
   pub green-other : Green-half f i (outputs f (trade (row-colour (f .phase) i))) y
 
 -- of every frame whose differences stand in work
-pub record Differences-formed (shape : Shape) (i : ℕ) (tops work own other x y : List ℤ) : Type 0 where
-  pub row : (zs : List ℕ) → Out-reads (frame shape zs) i tops work → Row-differences (frame shape zs) i own other x y
+pub record Differences-formed (shape : Shape) (i base : ℕ) (tops work own other x y : List ℤ) : Type 0 where
+  pub row : (zs : List ℕ) → Out-reads (frame shape zs) i base tops work → Row-differences (frame shape zs) i own other x y
+
+-- the samples of row i from entry at on, and its differences
+pub record Outputs-read (f : Frame) (i at : ℕ) (rows : List ℕ) (own other x y : List ℤ) : Type 0 where
+  pub taken : Taken f
+  pub inside : i < f .height
+  pub row : Loaded f i at rows
+  pub differences : Row-differences f i own other x y
+
+-- of every frame whose samples and differences these are
+pub record Outputs-formed (shape : Shape) (i at : ℕ) (rows : List ℕ) (own other x y zx zg xg xo x' y' : List ℤ) : Type 0 where
+  pub row : (zs : List ℕ) → Outputs-read (frame shape zs) i at rows own other x y → Row-outputs (frame shape zs) i zx zg xg xo x' y'
 
 -- a row of three planes of the shape
 pub record Row-stores (shape : Shape) (i start : ℕ) (red-plane green-plane blue-plane : List ℤ) : Type 0 where
@@ -68,4 +82,14 @@ pub record Row-stores (shape : Shape) (i start : ℕ) (red-plane green-plane blu
 -- of every frame whose outputs stand in the half rows
 pub record Plane-row (shape : Shape) (i : ℕ) (c : Colour) (zx zg xg xo x y old new : List ℤ) : Type 0 where
   pub row : (zs : List ℕ) → Row-outputs (frame shape zs) i zx zg xg xo x y
+      → Wrote (pos 0) (i * shape .width) (shape .width) (outputs (frame shape zs) c i) old new
+
+-- ---- the line: row i stands in the ring of rows, its differences and those of the rows one off in work
+pub record Out-lent (f : Frame) (i base : ℕ) (rows : List ℕ) (tops work : List ℤ) : Type 0 where
+  pub reads : Out-reads f i base tops work
+  pub row : Loaded f i (ring-row i * 4112) rows
+
+-- row i of the plane of a colour
+pub record Out-stores (shape : Shape) (i base : ℕ) (c : Colour) (rows : List ℕ) (tops work old new : List ℤ) : Type 0 where
+  pub row : (zs : List ℕ) → Out-lent (frame shape zs) i base rows tops work
       → Wrote (pos 0) (i * shape .width) (shape .width) (outputs (frame shape zs) c i) old new

@@ -9,16 +9,18 @@ use Rattle.toolkit.specs.Writes.{Wrote, wrote-as}
 use Rattle.frame.specs.Sites.{Colour, green, frame}
 use Rattle.frame.specs.Colours.{trade}
 use Rattle.frame.specs.declared.Shape.{Shape}
+use Rattle.positions.specs.Rings.{ring-row}
 use Rattle.positions.specs.HalfRows.{chroma-start, half-count, chroma-count}
 use Rattle.positions.specs.HalfRowLaws.{chroma-small}
 use Rattle.positions.specs.Places.{area, row-end}
 use Rattle.records.specs.Quantities.{outputs}
+use Rattle.records.specs.SiteColours.{row-colour}
 use Rattle.half_rows.specs.Near.{chroma-count-is}
 use Rattle.out_rows.specs.RowPlaces.{Row-of}
 use Rattle.out_rows.specs.Woven.{woven}
-use Rattle.out_stage.specs.RowColours.{row-colour}
-use Rattle.out_stage.specs.OutRows.{Chroma-half, Green-half, Plane-row}
+use Rattle.out_stage.specs.OutRows.{Chroma-half, Green-half, Differences-formed, Outputs-formed, Plane-row, Out-stores}
 use Rattle.out_stage.specs.HalfLaws.{half-as, woven-half}
+use Rattle.out_stage.specs.RowOutputs.{outputs-read}
 
 -- where row i starts in a plane
 pub row-start : (shape : Shape) (i : ℕ) → Row-of shape i → i * shape .width ≤ 16777216
@@ -40,7 +42,8 @@ module _ (shape : Shape) (i start : ℕ) (r : Row-of shape i) (e : start ≡ chr
   )
 
   -- two half rows of one quantity
-  woven-row : (zs : List ℕ) (q : ℕ → ℕ → ℤ) (u v : List ℤ) {old new : List ℤ} → Chroma-half (frame shape zs) i q u → Green-half (frame shape zs) i q v
+  woven-row : (zs : List ℕ) (q : ℕ → ℕ → ℤ) (u v : List ℤ) {old new : List ℤ} → Chroma-half (frame shape zs) i q u
+      → Green-half (frame shape zs) i q v
       → Wrote (pos 0) (i * shape .width) (shape .width) (woven start u v) old new → Wrote (pos 0) (i * shape .width) (shape .width) (q i) old new
   woven-row zs q u v hu hv w =
       let n : chroma-count (frame shape zs) i ≡ half-count (shape .width) start = sym (chroma-count-is (frame shape zs) i start e) in
@@ -65,3 +68,10 @@ module _ (shape : Shape) (i start : ℕ) (r : Row-of shape i) (e : start ≡ chr
         rw (← k) (record {
           row = λ zs o. woven-row zs (outputs (frame shape zs) (trade (row-colour (shape .phase) i))) xo y (o .chroma-other) (o .green-other) w;
         })
+
+-- the steps of the line, one after the other
+pub out-stored : {shape : Shape} {i base at : ℕ} {c : Colour} {rows : List ℕ} {tops work own other x y zx zg xg xo x' y' old new : List ℤ}
+    → Differences-formed shape i base tops work own other x y → at ≡ ring-row i * 4112
+    → Outputs-formed shape i at rows own other x y zx zg xg xo x' y' → Plane-row shape i c zx zg xg xo x' y' old new
+    → Out-stores shape i base c rows tops work old new
+out-stored d e o p = record { row = λ zs lent. p .row zs (o .row zs (outputs-read lent e (d .row zs (lent .reads)))) }

@@ -1,18 +1,14 @@
--- The colour of a row's red or blue sites, of its other sites, and of the neighbours of a green site. Assumes nothing.
+-- Whether a row has red or blue, what the next row has, and the colours of a green site's neighbours. Assumes nothing.
 use mathlib.Core.Path.{_≡_, refl, _∙_}
-use mathlib.Core.Bool.{cond, false}
+use mathlib.Core.Bool.{cond}
 use Prim.Native.Nat.{ℕ, zero, suc, _+_, _/_, _%_, _≤_}
 use native.Mathlib.Omega.{arith}
 use lib.Dec.{eqb}
 use lib.IntN.{ℤ, pos, natAbs}
-use Rattle.toolkit.specs.Tests.{by-test}
-use Rattle.frame.specs.Sites.{Colour, red, green, blue, rggb, colour, around}
-use Rattle.frame.specs.Colours.{trade, is-green, colour-parity, colour-around}
+use Rattle.frame.specs.Sites.{red, blue, colour, around}
+use Rattle.frame.specs.Colours.{trade, colour-parity, colour-around}
 use Rattle.positions.specs.HalfRows.{chroma-start}
-
--- which of red and blue row i has
-unfoldable pub row-colour : ℕ → ℕ → Colour
-row-colour p i = cond (eqb ((i + p / 2) % 2) 0) red blue
+use Rattle.records.specs.SiteColours.{row-colour, chroma-colour}
 
 pub row-red : (p i : ℕ) → (i + p / 2) % 2 ≡ 0 → row-colour p i ≡ red
 unfolding row-colour
@@ -21,10 +17,6 @@ row-red p i e = rw e
 pub row-blue : (p i : ℕ) → ¬ ((i + p / 2) % 2 ≡ 0) → row-colour p i ≡ blue
 unfolding row-colour
 row-blue p i h = let e : (i + p / 2) % 2 ≡ 1 = omega (arith, h) in rw e
-
-pub row-not-green : (p i : ℕ) → is-green (row-colour p i) ≡ false
-unfolding row-colour
-row-not-green p i = by-test (eqb ((i + p / 2) % 2) 0) _ (λ t. rw t) (λ t. rw t)
 
 row-next : (p i : ℕ) → row-colour p (i + 1) ≡ trade (row-colour p i)
 unfolding row-colour
@@ -35,30 +27,6 @@ row-next p i = go ((i + p / 2) % 2) refl
     go zero e = let b : (i + 1 + p / 2) % 2 ≡ 1 = omega arith in rw (e, b)
     go (suc zero) e = let b : (i + 1 + p / 2) % 2 ≡ 0 = omega arith in rw (e, b)
     go (suc (suc a)) e = absurd (omega arith)
-
--- the first half of a row
-pub chroma-colour : (p i j : ℕ) → j % 2 ≡ chroma-start p i → colour p i j ≡ row-colour p i
-unfolding colour rggb chroma-start row-colour
-chroma-colour p i j h = go ((i + p / 2) % 2) refl
-  where
-    go : (a : ℕ) → (i + p / 2) % 2 ≡ a → rggb (i + p / 2) (j + p % 2) ≡ cond (eqb ((i + p / 2) % 2) 0) red blue
-    go zero e = let b : (j + p % 2) % 2 ≡ 0 = omega arith in rw (e, b)
-    go (suc zero) e = let b : (j + p % 2) % 2 ≡ 1 = omega arith in rw (e, b)
-    go (suc (suc a)) e = absurd (omega arith)
-
--- the second half
-pub second-half-green : (p i j : ℕ) → ¬ (j % 2 ≡ chroma-start p i) → colour p i j ≡ green
-unfolding colour rggb chroma-start
-second-half-green p i j h = go ((i + p / 2) % 2) ((j + p % 2) % 2) refl refl
-  where
-    go : (a b : ℕ) → (i + p / 2) % 2 ≡ a → (j + p % 2) % 2 ≡ b → rggb (i + p / 2) (j + p % 2) ≡ green
-    go zero zero e f = absurd (h (omega arith))
-    go zero (suc zero) e f = rw (e, f)
-    go (suc zero) zero e f = rw (e, f)
-    go (suc zero) (suc zero) e f = absurd (h (omega arith))
-    go (suc (suc a)) b e f = absurd (omega arith)
-    go zero (suc (suc b)) e f = absurd (omega arith)
-    go (suc zero) (suc (suc b)) e f = absurd (omega arith)
 
 -- ---- beside a green site stands the row's colour, above and below it the other of red and blue
 module _ (H W p i j : ℕ) (tall : 2 ≤ H) (wide : 2 ≤ W) (h : ¬ (j % 2 ≡ chroma-start p i)) where

@@ -10,19 +10,20 @@ use Rattle.frame.specs.Colours.{trade}
 use Rattle.frame.specs.declared.Shape.{Shape}
 use Rattle.method.specs.Gradients.{mosaic}
 use Rattle.method.specs.Planes.{colour-difference}
+use Rattle.positions.specs.Rings.{ring-row}
 use Rattle.positions.specs.HalfRows.{chroma-start, half-count, chroma-count, chroma-row, Half}
 use Rattle.positions.specs.HalfRowLaws.{chroma-small, count-column, both-counts}
 use Rattle.records.specs.Layout.{record-size, final-part, other-part}
-use Rattle.records.specs.Held.{Held}
+use Rattle.records.specs.Held.{Kept}
 use Rattle.records.specs.Quantities.{finals, others}
 use Rattle.records.specs.Stages.{Out-reads}
+use Rattle.records.specs.SiteColours.{row-colour}
 use Rattle.half_rows.specs.Mirror.{mirrored}
 use Rattle.half_rows.specs.Near.{chroma-count-is, half-of-row}
 use Rattle.half_rows.specs.Sources.{north-entry}
 use Rattle.out_rows.specs.declared.Places.{Places}
 use Rattle.out_rows.specs.RowPlaces.{Placed}
 use Rattle.out_rows.specs.DirectMeans.{own-mean, other-mean, Direct-reads}
-use Rattle.out_stage.specs.RowColours.{row-colour}
 use Rattle.out_stage.specs.DirectReads.{start-small, rest-green, direct-reads, own-means, other-means}
 use Rattle.out_stage.specs.OutRows.{Chroma-half, Copied, Mirrored, Wide-half, Row-differences}
 use Rattle.out_stage.specs.HalfLaws.{half-as, half-made}
@@ -39,19 +40,19 @@ green-columns f i k w h =
     count-column (f .width) (1 - chroma-start (f .phase) i) k (omega arith)
     (omega (arith, both-counts (f .width) (chroma-start (f .phase) i) s w))
 
-module _ (shape : Shape) (zs : List ℕ) (i : ℕ) (p : Places) (placed : Placed shape i p) (tops work : List ℤ)
-    (reads : Out-reads (frame shape zs) i tops work) where
+module _ (shape : Shape) (zs : List ℕ) (i : ℕ) (p : Places) (placed : Placed shape i p) (base : ℕ) (tops work : List ℤ)
+    (reads : Out-reads (frame shape zs) i base tops work) where
   -- a part of the row's own record, copied and mirrored
   row-half : (q : ℕ → ℕ → ℤ) (o a : ℕ) (copied row : List ℤ)
-      → Held (record-size (shape .width)) o (chroma-count (frame shape zs)) (i - 1) (min (i + 2) (shape .height)) (chroma-row (frame shape zs) q) work
-      → a ≡ i * record-size (shape .width) + o → Copied p work a copied
+      → Kept (record-size (shape .width)) o (chroma-count (frame shape zs)) (i - 1) (min (i + 2) (shape .height)) (chroma-row (frame shape zs) q) work
+      → a ≡ ring-row i * record-size (shape .width) + o → Copied p work a copied
       → Mirrored (shape .width) p copied row
       → Wide-half (shape .width) p (q i) row
   row-half q o a copied row held e c m =
       let lent = reads .reads .lent in
       mirrored (shape .width) (p .start) (lent .taken .wide) (start-small shape zs i p placed) 3 (half-count (shape .width) (p .start) + 4 + 1) (q i)
       copied row
-      (half-of-row (frame shape zs) (record-size (shape .width)) o (i - 1) (min (i + 2) (shape .height)) q work (lent .taken .wide) held i (p .start) a
+      (half-of-row (frame shape zs) ring-row (record-size (shape .width)) o (i - 1) (min (i + 2) (shape .height)) q work (lent .taken .wide) held i (p .start) a
       (p .count) copied (omega arith) (omega (arith, lent .inside)) (placed .start-is) (placed .count-is) e c) m
 
   -- its middle
@@ -74,7 +75,7 @@ module _ (shape : Shape) (zs : List ℕ) (i : ℕ) (p : Places) (placed : Placed
     other-half = row-half (others (frame shape zs)) (other-part (shape .width)) _ other-copied other (reads .others-held) (placed .others-is) tc tm
 
     pub means-asked : Direct-reads p work n own other
-    means-asked = direct-reads shape zs i p placed tops work reads n own other norths own-half other-half
+    means-asked = direct-reads shape zs i p placed base tops work reads n own other norths own-half other-half
 
     -- a row of means
     green-half : (q : ℕ → ℤ) {g : ℕ → ℤ} {row : List ℤ} → Entries (pos 0) 2064 4 (p .rest + 4) (λ (k : ℕ). g (k - 4)) row
@@ -97,8 +98,8 @@ module _ (shape : Shape) (zs : List ℕ) (i : ℕ) (p : Places) (placed : Placed
       chroma-other = middle-half (others (frame shape zs)) other-half;
       green-own = green-half (colour-difference (mosaic (frame shape zs)) (row-colour (shape .phase) i) i)
           {g = own-mean p work n own} ex
-          (own-means shape zs i p placed tops work reads n own other norths own-half other-half);
+          (own-means shape zs i p placed base tops work reads n own other norths own-half other-half);
       green-other = green-half (colour-difference (mosaic (frame shape zs)) (trade (row-colour (shape .phase) i)) i)
           {g = other-mean p work n other} ey
-          (other-means shape zs i p placed tops work reads n own other norths own-half other-half);
+          (other-means shape zs i p placed base tops work reads n own other norths own-half other-half);
     }

@@ -10,23 +10,32 @@ use lib.IntN.{ℤ, pos, natAbs, _+ℤ_, _-ℤ_, _*ℤ_}
 use lib.ListN.{getD}
 use Rattle.toolkit.specs.Entries.{Entries}
 use Rattle.frame.specs.Sites.{Frame, Colour, red, green, blue, sample}
-use Rattle.frame.specs.Colours.{trade, is-green}
+use Rattle.frame.specs.Colours.{trade, trade-twice, is-green}
 use Rattle.method.specs.Gradients.{mosaic}
 use Rattle.method.specs.Planes.{colour-difference, final-round}
 use Rattle.method.specs.Sizes.{colour-difference-size}
 use Rattle.positions.specs.Taken.{Taken}
+use Rattle.positions.specs.Rings.{ring-row}
 use Rattle.positions.specs.HalfRows.{chroma-start, chroma-count, Half}
 use Rattle.positions.specs.HalfRowLaws.{chroma-small}
 use Rattle.records.specs.Quantities.{finals, others, outputs}
-use Rattle.mosaic_rows.specs.LoadedRows.{Loaded}
+use Rattle.records.specs.SiteColours.{row-colour, row-not-green, chroma-colour, second-half-green}
 use Rattle.out_rows.specs.DirectMeans.{Bounded}
-use Rattle.out_stage.specs.RowColours.{row-colour, row-not-green, chroma-colour, second-half-green}
 use Rattle.out_stage.specs.SiteOutputs.{measured-output, green-output, other-output, missing-output, other-difference}
 use Rattle.out_stage.specs.DirectDifferences.{finals-size, others-size}
-use Rattle.out_stage.specs.DirectReads.{trade-twice}
 use Rattle.out_stage.specs.RowDifferences.{chroma-columns, green-columns}
-use Rattle.out_stage.specs.OutRows.{Green-half, Row-differences, Row-outputs}
+use Rattle.out_stage.specs.OutRows.{Green-half, Row-differences, Row-outputs, Outputs-read, Out-lent}
 use Rattle.out_stage.specs.HalfLaws.{half-as, half-same, half-of-three, half-bounded, samples-half}
+
+-- what the outputs are formed from, where row i stands at its place of the ring
+pub outputs-read : {f : Frame} {i base at : ℕ} {rows : List ℕ} {tops work own other x y : List ℤ} → Out-lent f i base rows tops work
+    → at ≡ ring-row i * 4112 → Row-differences f i own other x y → Outputs-read f i at rows own other x y
+outputs-read lent e d = record {
+  taken = lent .reads .reads .lent .taken;
+  inside = lent .reads .reads .lent .inside;
+  row = rw e (lent .row);
+  differences = d;
+}
 
 traded-not-green : (c : Colour) → is-green c ≡ false → is-green (trade c) ≡ false
 traded-not-green red e = refl
@@ -60,7 +69,7 @@ module _ (f : Frame) (i j : ℕ) where
     chroma-other : final-round (finals f i j +ℤ pos 4 *ℤ pos (sample f i j) -ℤ others f i j) ≡ outputs f (trade own) i j
     unfolding outputs finals mosaic
     chroma-other =
-        let e = chroma-colour (f .phase) i j site ∙ trade-twice own in
+        let e = chroma-colour (f .phase) i j site ∙ sym (trade-twice own) in
         ap (λ (o : ℤ). final-round (finals f i j +ℤ pos 4 *ℤ pos (sample f i j) -ℤ o)) (other-difference f (trade own) i j e)
         ∙ other-output (mosaic f) (trade own) i j (traded-not-green own (row-not-green (f .phase) i)) e
 
@@ -76,11 +85,16 @@ module _ (f : Frame) (i j : ℕ) where
     green-missing c h = missing-output (mosaic f) c i j h (second-half-green (f .phase) i j site)
 
 -- ---- the row, whose first half starts at column c and has n sites, its second m
-module _ (f : Frame) (i c n m : ℕ) (t : Taken f) (inside : i < f .height) (ec : c ≡ chroma-start (f .phase) i) (en : n ≡ chroma-count f i)
-    (em : m ≡ f .width - chroma-count f i) (rows : List ℕ) (loaded : Loaded f i 28784 rows) (own other zx zg x y : List ℤ)
-    (d : Row-differences f i own other x y)
-    (sx : Entries (pos 0) 2064 4 (n + 4) (λ (k : ℕ). pos (getD rows (28784 + (c + 2 * (k - 4) + 8)) 0)) zx)
-    (sg : Entries (pos 0) 2064 4 (m + 4) (λ (k : ℕ). pos (getD rows (28784 + (1 - c + 2 * (k - 4) + 8)) 0)) zg) where
+module _ (f : Frame) (i at c n m : ℕ) (ec : c ≡ chroma-start (f .phase) i) (en : n ≡ chroma-count f i) (em : m ≡ f .width - chroma-count f i)
+    (rows : List ℕ) (own other zx zg x y : List ℤ) (reads : Outputs-read f i at rows own other x y)
+    (sx : Entries (pos 0) 2064 4 (n + 4) (λ (k : ℕ). pos (getD rows (at + (c + 2 * (k - 4) + 8)) 0)) zx)
+    (sg : Entries (pos 0) 2064 4 (m + 4) (λ (k : ℕ). pos (getD rows (at + (1 - c + 2 * (k - 4) + 8)) 0)) zg) where
+  abbrev t : Taken f
+  t = reads .taken
+
+  abbrev d : Row-differences f i own other x y
+  d = reads .differences
+
   abbrev measured : ℕ → ℤ
   measured j = pos (sample f i j)
 
@@ -104,25 +118,25 @@ module _ (f : Frame) (i c n m : ℕ) (t : Taken f) (inside : i < f .height) (ec 
   other-half = first (others f i) (d .chroma-other)
 
   zx-half : Half (f .width) c 4 (n + 4) measured zx
-  zx-half = samples-half f i 28784 c n loaded (λ k l. rw ec (chroma-columns f i k (rw (← en) l))) sx
+  zx-half = samples-half f i at c n (reads .row) (λ k l. rw ec (chroma-columns f i k (rw (← en) l))) sx
 
   zg-half : Half (f .width) (1 - c) 4 (m + 4) measured zg
-  zg-half = samples-half f i 28784 (1 - c) m loaded (λ k l. rw ec (green-columns f i k (t .wide) (rw (← em) l))) sg
+  zg-half = samples-half f i at (1 - c) m (reads .row) (λ k l. rw ec (green-columns f i k (t .wide) (rw (← em) l))) sg
 
   sample-size : (j : ℕ) → natAbs (measured j) ≤ 4096
   unfolding sample
   sample-size j = le-trans (t .ranged _) (lit≤ tt)
 
   difference-size : (k : Colour) (j : ℕ) → j < f .width → natAbs (difference k j) ≤ 4096
-  difference-size k j h = le-trans (colour-difference-size f (t .tall) (t .wide) (t .ranged) k i j inside h) (lit≤ tt)
+  difference-size k j h = le-trans (colour-difference-size f (t .tall) (t .wide) (t .ranged) k i j (reads .inside) h) (lit≤ tt)
 
   difference-bounded : (k : Colour) {row : List ℤ} → Green-half f i (colour-difference (mosaic f) k) row → Bounded 4096 m row
   difference-bounded k h = half-bounded (f .width) (1 - c) (t .wide) 4096 m (difference k) (difference-size k) (second (difference k) h)
 
   pub row-bounded : Row-bounded n m own other zx zg x y
   row-bounded = record {
-    own-small = half-bounded (f .width) c (t .wide) 4096 n (finals f i) (λ j h. finals-size f t i j inside h) own-half;
-    other-small = half-bounded (f .width) c (t .wide) 4096 n (others f i) (λ j h. others-size f t i j inside h) other-half;
+    own-small = half-bounded (f .width) c (t .wide) 4096 n (finals f i) (λ j h. finals-size f t i j (reads .inside) h) own-half;
+    other-small = half-bounded (f .width) c (t .wide) 4096 n (others f i) (λ j h. others-size f t i j (reads .inside) h) other-half;
     zx-small = half-bounded (f .width) c (t .wide) 4096 n measured (λ j h. sample-size j) zx-half;
     zg-small = half-bounded (f .width) (1 - c) (t .wide) 4096 m measured (λ j h. sample-size j) zg-half;
     x-small = difference-bounded (row-colour (f .phase) i) (d .green-own);

@@ -1,28 +1,19 @@
 -- The differences and the outputs of a site by its colour: red and blue by one law each. Assumes nothing.
 use mathlib.Core.Path.{_≡_, refl, sym, _∙_}
-use mathlib.Core.Bool.{true, false, true≢false}
+use mathlib.Core.Bool.{false, true≢false}
 use Prim.Native.Nat.{ℕ}
 use lib.IntN.{pos, _+ℤ_, _-ℤ_, _*ℤ_}
 use Rattle.frame.specs.Sites.{Frame, Colour, red, green, blue}
-use Rattle.frame.specs.Colours.{trade, is-green}
+use Rattle.frame.specs.Colours.{trade, trade-twice, is-green}
 use Rattle.method.specs.Gradients.{Mosaic, mosaic, around-in, gradients-at}
+use Rattle.method.specs.ColourLaws.{same-self}
 use Rattle.method.specs.Planes.{weighted-mean, straight, same, final-difference, chroma-site-difference, colour-difference, green-quarters, quarters, final-round, output}
-use Rattle.records.specs.Quantities.{opposite, others}
-
-same-self : (c : Colour) → same c c ≡ true
-same-self red = refl
-same-self green = refl
-same-self blue = refl
+use Rattle.records.specs.Quantities.{others}
 
 same-green : (c : Colour) → same c green ≡ is-green c
 same-green red = refl
 same-green green = refl
 same-green blue = refl
-
-opposite-traded : (c : Colour) → opposite (trade c) ≡ c
-opposite-traded red = refl
-opposite-traded green = refl
-opposite-traded blue = refl
 
 module _ (m : Mosaic) (c : Colour) (i j : ℕ) where
   -- of its own colour
@@ -44,7 +35,7 @@ module _ (m : Mosaic) (c : Colour) (i j : ℕ) where
 -- of the colour that a red or blue site does not measure
 pub other-difference : (f : Frame) (c : Colour) (i j : ℕ) → mosaic f .colour-at i j ≡ trade c → others f i j ≡ chroma-site-difference (mosaic f) c i j
 unfolding others
-other-difference f c i j e = rw (e, opposite-traded c)
+other-difference f c i j e = rw (e, trade-twice c)
 
 -- green at a red or blue site
 pub green-output : (m : Mosaic) (i j : ℕ) → is-green (m .colour-at i j) ≡ false

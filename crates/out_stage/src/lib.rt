@@ -1,18 +1,15 @@
-// The last stage of the sweep: the three numbers of every site of a row, from both differences of the rows i and one off.
+// The last stage of the sweep: the three numbers of every site of a row, from its samples and both differences of the rows i and one off.
 use frame::Shape;
 use out_rows::Places;
 ghost use mathlib.Core.Path.{_≡_};
 ghost use mathlib.Core.List.{List};
-ghost use Prim.Native.Nat.{ℕ, _*_, _<_};
-ghost use lib.IntN.{pos};
+ghost use Prim.Native.Nat.{ℕ, _+_, _*_, _≤_};
 ghost use lib.ListN.{length};
-ghost use Rattle.toolkit.specs.Writes.{Wrote};
 ghost use Rattle.frame.specs.Sites.{Colour, frame};
-ghost use Rattle.positions.specs.Taken.{Taken, Some-samples};
-ghost use Rattle.records.specs.Quantities.{outputs};
-ghost use Rattle.records.specs.Stages.{Plane-size, Out-reads};
+ghost use Rattle.positions.specs.Taken.{Some-samples};
+ghost use Rattle.records.specs.Stages.{Out-reads};
 ghost use Rattle.out_rows.specs.RowPlaces.{Placed};
-ghost use Rattle.out_stage.specs.OutRows.{Row-differences, Row-outputs, Differences-formed, Row-stores, Plane-row};
+ghost use Rattle.out_stage.specs.OutRows.{Differences-formed, Outputs-read, Outputs-formed, Row-stores, Plane-row, Out-lent, Out-stores};
 
 // Both differences of row i: own and other at its red and blue sites, x and y at its green sites.
 fn row_differences(
@@ -20,6 +17,7 @@ fn row_differences(
     work: &[i32],
     shape: Shape,
     i: usize,
+    base: usize,
     p: Places,
     n: &mut [i32; 2064],
     own: &mut [i32; 2064],
@@ -27,10 +25,12 @@ fn row_differences(
     x: &mut [i32; 2064],
     y: &mut [i32; 2064],
 )
-    requires { ⌜ Some-samples (λ (zs : List ℕ). Out-reads (frame shape zs) i (now tops) (now work)) ⌝ }
+    requires { ⌜ Some-samples (λ (zs : List ℕ). Out-reads (frame shape zs) i base (now tops) (now work)) ⌝ }
     requires { ⌜ Placed shape i p ⌝ }
-    requires { ⌜ (length (now n) ≡ 2064) × (length (now own) ≡ 2064) × (length (now other) ≡ 2064) × (length (now x) ≡ 2064) × (length (now y) ≡ 2064) ⌝ }
-    ensures { λ _. ⌜ Differences-formed shape i (now (tops .entry)) (now (work .entry)) (now (own .exit)) (now (other .exit)) (now (x .exit)) (now (y .exit)) ⌝ }
+    requires { ⌜ (length (now n) ≡ 2064) × (length (now own) ≡ 2064) × (length (now other) ≡ 2064) × (length (now x) ≡ 2064)
+        × (length (now y) ≡ 2064) ⌝ }
+    ensures { λ _. ⌜ Differences-formed shape i base (now (tops .entry)) (now (work .entry)) (now (own .exit)) (now (other .exit))
+        (now (x .exit)) (now (y .exit)) ⌝ }
     ensures { λ _. ⌜ length (now (n .exit)) ≡ 2064 ⌝ }
 {
     let w = shape.width;
@@ -41,17 +41,17 @@ fn row_differences(
     half_rows::copy(work, here.others, count, other);
     half_rows::mirror(own, w, start, 1);
     half_rows::mirror(other, w, start, 1);
-    half_rows::north(tops, work, w, i, count, p.rest, n);
+    half_rows::north(tops, work, w, i, base, count, p.rest, n);
     out_rows::direct_means(work, p, n, own, other, x, y);
 }
 
-// The outputs of row i: in zx, xg and xo at its red and blue sites, in zg, x and y at its green sites.
+// The outputs of row i, whose samples stand from entry at on: in zx, xg and xo at its red and blue sites, in zg, x and y at its green sites.
 fn row_outputs(
-    mosaic: &[u16],
+    rows: &[u16; 98688],
+    at: usize,
     shape: Shape,
     i: usize,
     p: Places,
-    rows: &mut [u16; 32896],
     own: &[i32; 2064],
     other: &[i32; 2064],
     zx: &mut [i32; 2064],
@@ -61,18 +61,17 @@ fn row_outputs(
     x: &mut [i32; 2064],
     y: &mut [i32; 2064],
 )
-    requires { ⌜ (Taken (frame shape (now mosaic))) × (i < shape .height) × (Placed shape i p) ⌝ }
-    requires { ⌜ Row-differences (frame shape (now mosaic)) i (now own) (now other) (now x) (now y) ⌝ }
-    requires { ⌜ (length (now rows) ≡ 32896) × (length (now zx) ≡ 2064) × (length (now zg) ≡ 2064) × (length (now xg) ≡ 2064) × (length (now xo) ≡ 2064) ⌝ }
-    ensures { λ _. ⌜ Row-outputs (frame shape (now (mosaic .entry))) i (now (zx .exit)) (now (zg .exit)) (now (xg .exit)) (now (xo .exit)) (now (x .exit)) (now (y .exit)) ⌝ }
-    ensures { λ _. ⌜ length (now (rows .exit)) ≡ 32896 ⌝ }
+    requires { ⌜ Some-samples (λ (zs : List ℕ). Outputs-read (frame shape zs) i at (now rows) (now own) (now other) (now x) (now y)) ⌝ }
+    requires { ⌜ (Placed shape i p) × (at + 4112 ≤ 98688) ⌝ }
+    requires { ⌜ (length (now zx) ≡ 2064) × (length (now zg) ≡ 2064) × (length (now xg) ≡ 2064) × (length (now xo) ≡ 2064) ⌝ }
+    ensures { λ _. ⌜ Outputs-formed shape i at (now (rows .entry)) (now (own .entry)) (now (other .entry)) (now (x .entry)) (now (y .entry))
+        (now (zx .exit)) (now (zg .exit)) (now (xg .exit)) (now (xo .exit)) (now (x .exit)) (now (y .exit)) ⌝ }
 {
     let start = p.start;
     let count = p.count;
     let rest = p.rest;
-    mosaic_rows::load(mosaic, shape, i, rows, 28784);
-    out_rows::samples(rows, 28784, start, count, zx);
-    out_rows::samples(rows, 28784, 1 - start, rest, zg);
+    out_rows::samples(rows, at, start, count, zx);
+    out_rows::samples(rows, at, 1 - start, rest, zg);
     out_rows::chroma_sites(own, other, zx, xg, xo, count);
     out_rows::green_sites(zg, x, rest);
     out_rows::green_sites(zg, y, rest);
@@ -94,9 +93,12 @@ fn store_outputs(
     blue: &mut [i32],
 )
     requires { ⌜ Row-stores shape i start (now red) (now green) (now blue) ⌝ }
-    ensures { λ _. ⌜ Plane-row shape i Colour.red (now (zx .entry)) (now (zg .entry)) (now (xg .entry)) (now (xo .entry)) (now (x .entry)) (now (y .entry)) (now (red .entry)) (now (red .exit)) ⌝ }
-    ensures { λ _. ⌜ Plane-row shape i Colour.green (now (zx .entry)) (now (zg .entry)) (now (xg .entry)) (now (xo .entry)) (now (x .entry)) (now (y .entry)) (now (green .entry)) (now (green .exit)) ⌝ }
-    ensures { λ _. ⌜ Plane-row shape i Colour.blue (now (zx .entry)) (now (zg .entry)) (now (xg .entry)) (now (xo .entry)) (now (x .entry)) (now (y .entry)) (now (blue .entry)) (now (blue .exit)) ⌝ }
+    ensures { λ _. ⌜ Plane-row shape i Colour.red (now (zx .entry)) (now (zg .entry)) (now (xg .entry)) (now (xo .entry))
+        (now (x .entry)) (now (y .entry)) (now (red .entry)) (now (red .exit)) ⌝ }
+    ensures { λ _. ⌜ Plane-row shape i Colour.green (now (zx .entry)) (now (zg .entry)) (now (xg .entry)) (now (xo .entry))
+        (now (x .entry)) (now (y .entry)) (now (green .entry)) (now (green .exit)) ⌝ }
+    ensures { λ _. ⌜ Plane-row shape i Colour.blue (now (zx .entry)) (now (zg .entry)) (now (xg .entry)) (now (xo .entry))
+        (now (x .entry)) (now (y .entry)) (now (blue .entry)) (now (blue .exit)) ⌝ }
 {
     let w = shape.width;
     let at = i * w;
@@ -110,14 +112,14 @@ fn store_outputs(
     }
 }
 
-// Row i of the three planes.
+// Row i of the three planes. a, b, l and m are own, other, x and y of the steps; d, e, f and g are zx, zg, xg and xo.
 pub fn out_line(
-    mosaic: &[u16],
-    rows: &mut [u16; 32896],
+    rows: &[u16; 98688],
     tops: &[i32],
     shape: Shape,
     work: &[i32],
     i: usize,
+    base: usize,
     n: &mut [i32; 2064],
     a: &mut [i32; 2064],
     b: &mut [i32; 2064],
@@ -131,16 +133,24 @@ pub fn out_line(
     green: &mut [i32],
     blue: &mut [i32],
 )
-    requires { ⌜ Out-reads (frame shape (now mosaic)) i (now tops) (now work) ⌝ }
-    requires { ⌜ (Plane-size (frame shape (now mosaic)) (now red)) × (Plane-size (frame shape (now mosaic)) (now green)) × (Plane-size (frame shape (now mosaic)) (now blue)) ⌝ }
-    requires { ⌜ (length (now rows) ≡ 32896) × (length (now n) ≡ 2064) × (length (now a) ≡ 2064) × (length (now b) ≡ 2064) × (length (now d) ≡ 2064) × (length (now e) ≡ 2064) × (length (now f) ≡ 2064) × (length (now g) ≡ 2064) × (length (now l) ≡ 2064) × (length (now m) ≡ 2064) ⌝ }
-    ensures { λ _. ⌜ Wrote (pos 0) (i * shape .width) (shape .width) (outputs (frame shape (now (mosaic .entry))) Colour.red i) (now (red .entry)) (now (red .exit)) ⌝ }
-    ensures { λ _. ⌜ Wrote (pos 0) (i * shape .width) (shape .width) (outputs (frame shape (now (mosaic .entry))) Colour.green i) (now (green .entry)) (now (green .exit)) ⌝ }
-    ensures { λ _. ⌜ Wrote (pos 0) (i * shape .width) (shape .width) (outputs (frame shape (now (mosaic .entry))) Colour.blue i) (now (blue .entry)) (now (blue .exit)) ⌝ }
-    ensures { λ _. ⌜ (length (now (rows .exit)) ≡ 32896) × (length (now (n .exit)) ≡ 2064) × (length (now (a .exit)) ≡ 2064) × (length (now (b .exit)) ≡ 2064) × (length (now (d .exit)) ≡ 2064) × (length (now (e .exit)) ≡ 2064) × (length (now (f .exit)) ≡ 2064) × (length (now (g .exit)) ≡ 2064) × (length (now (l .exit)) ≡ 2064) × (length (now (m .exit)) ≡ 2064) ⌝ }
+    requires { ⌜ Some-samples (λ (zs : List ℕ). Out-lent (frame shape zs) i base (now rows) (now tops) (now work)) ⌝ }
+    requires { ⌜ (length (now red) ≡ shape .height * shape .width) × (length (now green) ≡ shape .height * shape .width)
+        × (length (now blue) ≡ shape .height * shape .width) ⌝ }
+    requires { ⌜ (length (now n) ≡ 2064) × (length (now a) ≡ 2064) × (length (now b) ≡ 2064) × (length (now d) ≡ 2064)
+        × (length (now e) ≡ 2064) × (length (now f) ≡ 2064) × (length (now g) ≡ 2064) × (length (now l) ≡ 2064) × (length (now m) ≡ 2064) ⌝ }
+    ensures { λ _. ⌜ Out-stores shape i base Colour.red (now (rows .entry)) (now (tops .entry)) (now (work .entry))
+        (now (red .entry)) (now (red .exit)) ⌝ }
+    ensures { λ _. ⌜ Out-stores shape i base Colour.green (now (rows .entry)) (now (tops .entry)) (now (work .entry))
+        (now (green .entry)) (now (green .exit)) ⌝ }
+    ensures { λ _. ⌜ Out-stores shape i base Colour.blue (now (rows .entry)) (now (tops .entry)) (now (work .entry))
+        (now (blue .entry)) (now (blue .exit)) ⌝ }
+    ensures { λ _. ⌜ (length (now (n .exit)) ≡ 2064) × (length (now (a .exit)) ≡ 2064) × (length (now (b .exit)) ≡ 2064)
+        × (length (now (d .exit)) ≡ 2064) × (length (now (e .exit)) ≡ 2064) × (length (now (f .exit)) ≡ 2064)
+        × (length (now (g .exit)) ≡ 2064) × (length (now (l .exit)) ≡ 2064) × (length (now (m .exit)) ≡ 2064) ⌝ }
 {
-    let p = out_rows::row_places(shape, i);
-    row_differences(tops, work, shape, i, p, n, a, b, l, m);
-    row_outputs(mosaic, shape, i, p, rows, a, b, d, e, f, g, l, m);
+    let p = out_rows::row_places(shape, i, base);
+    let at = mosaic_rows::row_at(i, base);
+    row_differences(tops, work, shape, i, base, p, n, a, b, l, m);
+    row_outputs(rows, at, shape, i, p, a, b, d, e, f, g, l, m);
     store_outputs(shape, i, p.start, d, e, f, g, l, m, red, green, blue);
 }

@@ -1,9 +1,10 @@
-// Positions: reflection outside a line, and the columns of a half row.
+// Positions: reflection outside a line, the columns of a half row, and the places of rows in a ring.
 ghost use mathlib.Core.Path.{_≡_};
-ghost use Prim.Native.Nat.{_<_, _≤_};
+ghost use Prim.Native.Nat.{_+_, _-_, _<_, _≤_};
 ghost use lib.IntN.{pos, subℕ};
 ghost use Rattle.frame.specs.Sites.{reflect};
 ghost use Rattle.positions.specs.HalfRows.{chroma-start, half-count};
+ghost use Rattle.positions.specs.Rings.{ring-row, Round};
 
 // Position x of a line of n, reflected.
 pub fn reflected(n: usize, x: usize) -> usize
@@ -46,4 +47,20 @@ pub fn half_count(w: usize, c: usize) -> usize
     ensures { λ r. ⌜ (r ≡ half-count w c) × (1 ≤ r) × (r ≤ 2048) ⌝ }
 {
     (w + 1 - c) / 2
+}
+
+// The place of row r in a ring, r mod 24, from a row at place 0.
+pub fn ring_place(r: usize, base: usize) -> usize
+    requires { ⌜ (r ≤ 4096) × (Round base r r) ⌝ }
+    ensures { λ p. ⌜ p ≡ ring-row r ⌝ }
+{
+    if r < base { r + 24 - base } else { r - base }
+}
+
+// The row at place 0 for step t + 1, from that for step t.
+pub fn next_base(t: usize, base: usize) -> usize
+    requires { ⌜ (t ≤ 8192) × (Round base (t - 24) t) ⌝ }
+    ensures { λ b. ⌜ Round b (t + 1 - 24) (t + 1) ⌝ }
+{
+    if t + 1 == base + 24 { t + 1 } else { base }
 }

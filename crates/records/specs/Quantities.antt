@@ -3,7 +3,8 @@ use mathlib.Core.Bool.{cond}
 use Prim.Native.Nat.{ℕ, _+_, _*_, _-_}
 use lib.Dec.{ltb}
 use lib.IntN.{ℤ, pos}
-use Rattle.frame.specs.Sites.{Frame, Colour, red, green, blue}
+use Rattle.frame.specs.Sites.{Frame, Colour}
+use Rattle.frame.specs.Colours.{trade}
 use Rattle.method.specs.Gradients.{mosaic, gradients-at}
 use Rattle.method.specs.Green.{Direction, trial-difference}
 use Rattle.method.specs.Planes.{green-difference, final-difference, chroma-site-difference, output}
@@ -40,15 +41,9 @@ greens f = green-difference (mosaic f)
 unfoldable pub finals : Frame → ℕ → ℕ → ℤ
 finals f = final-difference (mosaic f)
 
--- of red and blue, the one that a site does not measure
-abbrev pub opposite : Colour → Colour
-opposite red = blue
-opposite green = green
-opposite blue = red
-
--- green minus the other colour at a red or blue site
+-- green minus the colour of red and blue that a red or blue site does not measure
 unfoldable pub others : Frame → ℕ → ℕ → ℤ
-others f i j = chroma-site-difference (mosaic f) (opposite (mosaic f .colour-at i j)) i j
+others f i j = chroma-site-difference (mosaic f) (trade (mosaic f .colour-at i j)) i j
 
 -- the three numbers
 unfoldable pub outputs : Frame → Colour → ℕ → ℕ → ℤ

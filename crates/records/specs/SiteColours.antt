@@ -1,24 +1,35 @@
--- Which colour a column of a half row has. Assumes nothing.
+-- The colour of a row's red or blue sites, and of its other sites. Assumes nothing.
 use mathlib.Core.Path.{_≡_, refl}
-use mathlib.Core.Bool.{false}
+use mathlib.Core.Bool.{cond, false, true≢false}
 use Prim.Native.Nat.{ℕ, zero, suc, _+_, _*_, _/_, _%_}
 use native.Mathlib.Omega.{arith}
-use Rattle.frame.specs.Sites.{red, green, blue, rggb, colour}
+use lib.Dec.{eqb}
+use Rattle.toolkit.specs.Tests.{by-test}
+use Rattle.frame.specs.Sites.{Colour, red, green, blue, rggb, colour}
+use Rattle.frame.specs.Colours.{trade, is-green}
+use Rattle.method.specs.Planes.{same}
 use Rattle.positions.specs.HalfRows.{chroma-start}
 use Rattle.positions.specs.HalfRowLaws.{chroma-small}
-use Rattle.method.specs.Planes.{same}
-use Rattle.records.specs.Quantities.{opposite}
 
--- the first half of a row: red in the rows that have red, blue in the others
-pub chroma-red : (p i j : ℕ) → j % 2 ≡ chroma-start p i → (i + p / 2) % 2 ≡ 0 → colour p i j ≡ red
-unfolding colour rggb chroma-start
-chroma-red p i j h e = let a : (j + p % 2) % 2 ≡ 0 = omega arith in rw (e, a)
+-- which of red and blue row i has
+unfoldable pub row-colour : ℕ → ℕ → Colour
+row-colour p i = cond (eqb ((i + p / 2) % 2) 0) red blue
 
-pub chroma-blue : (p i j : ℕ) → j % 2 ≡ chroma-start p i → (i + p / 2) % 2 ≡ 1 → colour p i j ≡ blue
-unfolding colour rggb chroma-start
-chroma-blue p i j h e = let a : (j + p % 2) % 2 ≡ 1 = omega arith in rw (e, a)
+pub row-not-green : (p i : ℕ) → is-green (row-colour p i) ≡ false
+unfolding row-colour
+row-not-green p i = by-test (eqb ((i + p / 2) % 2) 0) _ (λ t. rw t) (λ t. rw t)
 
--- the second half: green
+-- the first half of a row
+pub chroma-colour : (p i j : ℕ) → j % 2 ≡ chroma-start p i → colour p i j ≡ row-colour p i
+unfolding colour rggb chroma-start row-colour
+chroma-colour p i j h = go ((i + p / 2) % 2) refl
+  where
+    go : (a : ℕ) → (i + p / 2) % 2 ≡ a → rggb (i + p / 2) (j + p % 2) ≡ cond (eqb ((i + p / 2) % 2) 0) red blue
+    go zero e = let b : (j + p % 2) % 2 ≡ 0 = omega arith in rw (e, b)
+    go (suc zero) e = let b : (j + p % 2) % 2 ≡ 1 = omega arith in rw (e, b)
+    go (suc (suc a)) e = absurd (omega arith)
+
+-- the second half
 pub second-half-green : (p i j : ℕ) → ¬ (j % 2 ≡ chroma-start p i) → colour p i j ≡ green
 unfolding colour rggb chroma-start
 second-half-green p i j h = go ((i + p / 2) % 2) ((j + p % 2) % 2) refl refl
@@ -32,14 +43,13 @@ second-half-green p i j h = go ((i + p / 2) % 2) ((j + p % 2) % 2) refl refl
     go zero (suc (suc b)) e f = absurd (omega arith)
     go (suc zero) (suc (suc b)) e f = absurd (omega arith)
 
--- a red or blue site is not of the other colour
-pub chroma-not-opposite : (p i c k : ℕ) → c ≡ chroma-start p i → same (colour p i (c + 2 * k)) (opposite (colour p i (c + 2 * k))) ≡ false
-chroma-not-opposite p i c k e = go ((i + p / 2) % 2) refl
-  where
-    even : (c + 2 * k) % 2 ≡ chroma-start p i
-    even = omega (arith, chroma-small p i)
+-- a colour other than green is not its traded one
+not-traded : (c : Colour) → is-green c ≡ false → same c (trade c) ≡ false
+not-traded red e = refl
+not-traded green e = absurd (true≢false e)
+not-traded blue e = refl
 
-    go : (a : ℕ) → (i + p / 2) % 2 ≡ a → same (colour p i (c + 2 * k)) (opposite (colour p i (c + 2 * k))) ≡ false
-    go zero q = rw (chroma-red p i (c + 2 * k) even q)
-    go (suc zero) q = rw (chroma-blue p i (c + 2 * k) even q)
-    go (suc (suc a)) q = absurd (omega arith)
+-- a red or blue site is not of the other colour
+pub chroma-not-traded : (p i c k : ℕ) → c ≡ chroma-start p i → same (colour p i (c + 2 * k)) (trade (colour p i (c + 2 * k))) ≡ false
+chroma-not-traded p i c k e =
+    rw (chroma-colour p i (c + 2 * k) (omega (arith, chroma-small p i))) (not-traded (row-colour p i) (row-not-green p i))

@@ -11,19 +11,21 @@ use Rattle.frame.specs.declared.Shape.{Shape}
 use Rattle.method.specs.Green.{vertical, diagonal}
 use Rattle.positions.specs.Taken.{Taken}
 use Rattle.positions.specs.HalfRows.{chroma-count, chroma-row, in-halves}
-use Rattle.records.specs.Held.{Held}
+use Rattle.positions.specs.Rings.{ring-row, Round}
+use Rattle.records.specs.Held.{Held, Kept}
 use Rattle.records.specs.Layout.{record-size, gradient-size, final-part, other-part, top-size}
 use Rattle.records.specs.Quantities.{norths, gradient-entry, trials, greens, finals, others}
 
 -- the gradients of the rows from lo to hi − 1: E and S in their records, N of the rows 0 and 1 in tops
 pub record Gradients (f : Frame) (lo hi : ℕ) (tops work : List ℤ) : Type 0 where
-  pub records : Held (record-size (f .width)) 0 (λ r. gradient-size (f .width)) lo hi (gradient-entry f) work
+  pub records : Kept (record-size (f .width)) 0 (λ r. gradient-size (f .width)) lo hi (gradient-entry f) work
   pub top-rows : Held top-size 0 (λ r. f .width) 0 (min hi 2) (in-halves f (norths f)) tops
 
--- a frame, one of its rows, and the buffers that all stages share
-pub record Lent (f : Frame) (i : ℕ) (tops work : List ℤ) : Type 0 where
+-- a frame, one of its rows, and the buffers that all stages share; base is a row at place 0 of the records' ring
+pub record Lent (f : Frame) (i base : ℕ) (tops work : List ℤ) : Type 0 where
   pub taken : Taken f
   pub inside : i < f .height
+  pub round : Round base (i - 4) (i + 4)
   pub tops-size : length tops ≡ 2 * top-size
   pub work-size : length work ≡ f .height * record-size (f .width)
 
@@ -31,8 +33,8 @@ abbrev pub Plane-size : Frame → List ℤ → Type 0
 Plane-size f plane = length plane ≡ f .height * f .width
 
 -- ---- first: E, S, r_D and r_V of row i, from the mosaic; N is S of row i − 2
-pub record First-reads (f : Frame) (i : ℕ) (tops work : List ℤ) : Type 0 where
-  pub lent : Lent f i tops work
+pub record First-reads (f : Frame) (i base : ℕ) (tops work : List ℤ) : Type 0 where
+  pub lent : Lent f i base tops work
   pub above : Gradients f (i - 2) i tops work
 
 -- N of the rows 0 and 1 is stored where they are reached
@@ -41,7 +43,7 @@ pub record Tops-stored (f : Frame) (i : ℕ) (old new : List ℤ) : Type 0 where
   pub late : 2 ≤ i → new ≡ old
 
 abbrev pub Gradients-stored : Frame → ℕ → List ℤ → List ℤ → Type 0
-Gradients-stored f i old new = Wrote (pos 0) (i * record-size (f .width)) (gradient-size (f .width)) (gradient-entry f i) old new
+Gradients-stored f i old new = Wrote (pos 0) (ring-row i * record-size (f .width)) (gradient-size (f .width)) (gradient-entry f i) old new
 
 -- a quantity of the red and blue sites of row i is stored in its row of a plane
 abbrev pub Chroma-stored : Frame → (ℕ → ℕ → ℤ) → ℕ → List ℤ → List ℤ → Type 0
@@ -61,31 +63,31 @@ pub record Second-stores (shape : Shape) (i : ℕ) (diagonals verticals old new 
       → Chroma-stored (frame shape zs) (greens (frame shape zs)) i old new
 
 -- ---- enhance: the final difference of row i, from D of the rows i and two off
-pub record Enhance-reads (f : Frame) (i : ℕ) (tops work green : List ℤ) : Type 0 where
-  pub lent : Lent f i tops work
+pub record Enhance-reads (f : Frame) (i base : ℕ) (tops work green : List ℤ) : Type 0 where
+  pub lent : Lent f i base tops work
   pub green-size : Plane-size f green
   pub gradients : Gradients f (i - 2) (i + 1) tops work
   pub greens-held : Held (f .width) 0 (chroma-count f) (i - 2) (min (i + 3) (f .height)) (chroma-row f (greens f)) green
 
-pub record Enhance-stores (shape : Shape) (i : ℕ) (tops green old new : List ℤ) : Type 0 where
-  pub row : (zs : List ℕ) → Enhance-reads (frame shape zs) i tops old green
-      → Wrote (pos 0) (i * record-size (shape .width) + final-part (shape .width)) (chroma-count (frame shape zs) i)
+pub record Enhance-stores (shape : Shape) (i base : ℕ) (tops green old new : List ℤ) : Type 0 where
+  pub row : (zs : List ℕ) → Enhance-reads (frame shape zs) i base tops old green
+      → Wrote (pos 0) (ring-row i * record-size (shape .width) + final-part (shape .width)) (chroma-count (frame shape zs) i)
       (chroma-row (frame shape zs) (finals (frame shape zs)) i) old new
 
 -- ---- diagonal: the difference of the other colour of row i, from the final differences of the rows one off
-pub record Diagonal-reads (f : Frame) (i : ℕ) (tops work : List ℤ) : Type 0 where
-  pub lent : Lent f i tops work
+pub record Diagonal-reads (f : Frame) (i base : ℕ) (tops work : List ℤ) : Type 0 where
+  pub lent : Lent f i base tops work
   pub gradients : Gradients f (i - 2) (i + 1) tops work
-  pub finals-held : Held (record-size (f .width)) (final-part (f .width)) (chroma-count f) (i - 1) (min (i + 2) (f .height))
+  pub finals-held : Kept (record-size (f .width)) (final-part (f .width)) (chroma-count f) (i - 1) (min (i + 2) (f .height))
       (chroma-row f (finals f)) work
 
-pub record Diagonal-stores (shape : Shape) (i : ℕ) (tops old new : List ℤ) : Type 0 where
-  pub row : (zs : List ℕ) → Diagonal-reads (frame shape zs) i tops old
-      → Wrote (pos 0) (i * record-size (shape .width) + other-part (shape .width)) (chroma-count (frame shape zs) i)
+pub record Diagonal-stores (shape : Shape) (i base : ℕ) (tops old new : List ℤ) : Type 0 where
+  pub row : (zs : List ℕ) → Diagonal-reads (frame shape zs) i base tops old
+      → Wrote (pos 0) (ring-row i * record-size (shape .width) + other-part (shape .width)) (chroma-count (frame shape zs) i)
       (chroma-row (frame shape zs) (others (frame shape zs)) i) old new
 
 -- ---- out: the three numbers of row i, from both differences of the rows i and one off
-pub record Out-reads (f : Frame) (i : ℕ) (tops work : List ℤ) : Type 0 where
-  pub reads : Diagonal-reads f i tops work
-  pub others-held : Held (record-size (f .width)) (other-part (f .width)) (chroma-count f) (i - 1) (min (i + 2) (f .height))
+pub record Out-reads (f : Frame) (i base : ℕ) (tops work : List ℤ) : Type 0 where
+  pub reads : Diagonal-reads f i base tops work
+  pub others-held : Kept (record-size (f .width)) (other-part (f .width)) (chroma-count f) (i - 1) (min (i + 2) (f .height))
       (chroma-row f (others f)) work

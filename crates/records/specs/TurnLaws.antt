@@ -4,42 +4,64 @@ use mathlib.Core.List.{List}
 use mathlib.Core.Logic.{_⊎_, inl, inr}
 use Prim.Native.Nat.{ℕ, _+_, _*_, _-_, _<_, _≤_, min}
 use native.Mathlib.Omega.{arith}
-use lib.Dec.{ltb}
+use lib.Dec.{ltb, eqb}
 use lib.IntN.{ℤ, pos}
 use lib.ListN.{length, getD}
-use Rattle.toolkit.specs.Tests.{by-test, ltb-lt, ltb-ge}
+use Rattle.toolkit.specs.Tests.{by-test, ltb-lt, ltb-ge, eqb-eq, eqb-ne}
 use Rattle.toolkit.specs.Writes.{Wrote}
 use Rattle.positions.specs.Places.{row-end}
-use Rattle.records.specs.Held.{Held}
-use Rattle.records.specs.Turns.{Turn}
+use Rattle.positions.specs.Rings.{ring-row}
+use Rattle.positions.specs.RingLaws.{ring-apart}
+use Rattle.records.specs.Held.{Stands, Held, Kept}
+use Rattle.records.specs.Turns.{Turned, Turn, Ring-turn}
 
-pub held-none : {s o lo hi : ℕ} {n : ℕ → ℕ} {q : ℕ → ℕ → ℤ} {buffer : List ℤ} → hi ≤ lo → Held s o n lo hi q buffer
+pub held-none : {place : ℕ → ℕ} {s o lo hi : ℕ} {n : ℕ → ℕ} {q : ℕ → ℕ → ℤ} {buffer : List ℤ} → hi ≤ lo → Stands place s o n lo hi q buffer
 held-none h = record { row = λ r a b k l. absurd (omega arith) }
 
-pub held-part : {s o lo hi lo' hi' : ℕ} {n : ℕ → ℕ} {q : ℕ → ℕ → ℤ} {buffer : List ℤ} → Held s o n lo hi q buffer → lo ≤ lo' → hi' ≤ hi
-    → Held s o n lo' hi' q buffer
+pub held-part : {place : ℕ → ℕ} {s o lo hi lo' hi' : ℕ} {n : ℕ → ℕ} {q : ℕ → ℕ → ℤ} {buffer : List ℤ} → Stands place s o n lo hi q buffer
+    → lo ≤ lo' → hi' ≤ hi → Stands place s o n lo' hi' q buffer
 held-part h a b = record { row = λ r x y. h .row r (omega arith) (omega arith) }
 
-pub turn-made : {H L t s o : ℕ} {n : ℕ → ℕ} {q : ℕ → ℕ → ℤ} {old new : List ℤ} → L ≤ t → t < H + L
-    → Wrote (pos 0) ((t - L) * s + o) (n (t - L)) (q (t - L)) old new → Turn H L t s o n q old new
+pub turn-made : {place : ℕ → ℕ} {H L t s o : ℕ} {n : ℕ → ℕ} {q : ℕ → ℕ → ℤ} {old new : List ℤ} → L ≤ t → t < H + L
+    → Wrote (pos 0) (place (t - L) * s + o) (n (t - L)) (q (t - L)) old new → Turned place H L t s o n q old new
 turn-made a b w = record { here = λ x y. w; early = λ x. absurd (omega arith); late = λ x. absurd (omega arith) }
 
--- rows that start where the buffer does
-pub turn-front : {H L t s : ℕ} {n : ℕ → ℕ} {q : ℕ → ℕ → ℤ} {old new : List ℤ} → L ≤ t → t < H + L
-    → Wrote (pos 0) ((t - L) * s) (n (t - L)) (q (t - L)) old new → Turn H L t s 0 n q old new
-turn-front {H} {L} {t} {s} {n} {q} {old} {new} a b w =
-    turn-made a b (subst (λ (x : ℕ). Wrote (pos 0) x (n (t - L)) (q (t - L)) old new) {x = (t - L) * s} (omega arith) w)
+-- rows that start where their place does
+pub turn-front : {place : ℕ → ℕ} {H L t s : ℕ} {n : ℕ → ℕ} {q : ℕ → ℕ → ℤ} {old new : List ℤ} → L ≤ t → t < H + L
+    → Wrote (pos 0) (place (t - L) * s) (n (t - L)) (q (t - L)) old new → Turned place H L t s 0 n q old new
+turn-front {place} {H} {L} {t} {s} {n} {q} {old} {new} a b w =
+    turn-made a b (subst (λ (x : ℕ). Wrote (pos 0) x (n (t - L)) (q (t - L)) old new) {x = place (t - L) * s} (omega arith) w)
 
-pub turn-early : {H L t s o : ℕ} {n : ℕ → ℕ} {q : ℕ → ℕ → ℤ} {old : List ℤ} → t < L → Turn H L t s o n q old old
+pub turn-early : {place : ℕ → ℕ} {H L t s o : ℕ} {n : ℕ → ℕ} {q : ℕ → ℕ → ℤ} {old : List ℤ} → t < L → Turned place H L t s o n q old old
 turn-early a = record { here = λ x y. absurd (omega arith); early = λ x. refl; late = λ x. refl }
 
-pub turn-late : {H L t s o : ℕ} {n : ℕ → ℕ} {q : ℕ → ℕ → ℤ} {old : List ℤ} → H + L ≤ t → Turn H L t s o n q old old
+pub turn-late : {place : ℕ → ℕ} {H L t s o : ℕ} {n : ℕ → ℕ} {q : ℕ → ℕ → ℤ} {old : List ℤ} → H + L ≤ t → Turned place H L t s o n q old old
 turn-late a = record { here = λ x y. absurd (omega arith); early = λ x. refl; late = λ x. refl }
 
-module _ {H L t s o : ℕ} {n : ℕ → ℕ} {q : ℕ → ℕ → ℤ} {old new : List ℤ} (turn : Turn H L t s o n q old new) where
+-- a store within place a leaves what stands at place b
+pub stored-elsewhere : {A : Type 0} {d : A} (s a b : ℕ) {at m : ℕ} {q : ℕ → A} {old new : List A} → Wrote d at m q old new → a * s ≤ at
+    → at + m ≤ a * s + s → ¬ (b ≡ a) → (k : ℕ) → b * s ≤ k → k < b * s + s → getD new k d ≡ getD old k d
+stored-elsewhere s a b w start end other k low high = by-test (ltb b a) _
+    (λ u. let c : b < a = ltb-lt _ _ u in w .before k (omega (arith, row-end a s b c)))
+    (λ u.
+    let c : a ≤ b = ltb-ge _ _ u in
+    let d : a < b = omega (arith, other) in
+    w .after k (omega (arith, row-end b s a d)))
+
+-- the rows from lo to m − 1 have other places than row m
+abbrev Clear : (ℕ → ℕ) → ℕ → ℕ → Type 0
+Clear place lo m = (r : ℕ) → lo ≤ r → r < m → ¬ (place r ≡ place m)
+
+own-clear : (lo m : ℕ) → Clear (λ (r : ℕ). r) lo m
+own-clear lo m r a b e = omega arith
+
+ring-clear : (lo m : ℕ) → m < lo + 24 → Clear ring-row lo m
+ring-clear lo m h r a b = ring-apart r m b (omega arith)
+
+module _ {place : ℕ → ℕ} {H L t s o : ℕ} {n : ℕ → ℕ} {q : ℕ → ℕ → ℤ} {old new : List ℤ} (turn : Turned place H L t s o n q old new) where
   -- either the row is stored, or nothing is changed and no row is due
   turned : (P : List ℤ → Type 0) → (min (t + 1 - L) H ≡ min (t - L) H → P old)
-      → (L ≤ t → t < H + L → Wrote (pos 0) ((t - L) * s + o) (n (t - L)) (q (t - L)) old new → P new) → P new
+      → (L ≤ t → t < H + L → Wrote (pos 0) (place (t - L) * s + o) (n (t - L)) (q (t - L)) old new → P new) → P new
   turned P idle made = by-test (ltb t L) _
       (λ a. let l : t < L = ltb-lt _ _ a in subst P (sym (turn .early l)) (idle (omega arith)))
       (λ a.
@@ -51,67 +73,78 @@ module _ {H L t s o : ℕ} {n : ℕ → ℕ} {q : ℕ → ℕ → ℤ} {old new 
   turn-size = turned (λ (x : List ℤ). length x ≡ length old) (λ e. refl) (λ a b w. w .size)
 
   module _ (fit : (r : ℕ) → o + n r ≤ s) where
+    -- what stands at another place is as it was
+    other-place : (o' : ℕ) (n' : ℕ → ℕ) → ((r : ℕ) → o' + n' r ≤ s)
+        → Wrote (pos 0) (place (t - L) * s + o) (n (t - L)) (q (t - L)) old new → (r k : ℕ) → k < n' r → ¬ (place r ≡ place (t - L))
+        → getD new (place r * s + o' + k) (pos 0) ≡ getD old (place r * s + o' + k) (pos 0)
+    other-place o' n' fit' w r k l h =
+        stored-elsewhere s (place (t - L)) (place r) w (omega arith) (omega (arith, fit (t - L))) h _ (omega arith) (omega (arith, fit' r))
+
     -- the stage's own rows: one more
-    pub turn-next : {lo : ℕ} → Held s o n lo (min (t - L) H) q old → Held s o n lo (min (t + 1 - L) H) q new
-    turn-next {lo} h =
-        turned (Held s o n lo (min (t + 1 - L) H) q) (λ e. held-part h (omega arith) (omega arith))
+    one-more : {lo : ℕ} → (L ≤ t → t < H + L → Clear place lo (t - L)) → Stands place s o n lo (min (t - L) H) q old
+        → Stands place s o n lo (min (t + 1 - L) H) q new
+    one-more {lo} clear h =
+        turned (Stands place s o n lo (min (t + 1 - L) H) q) (λ e. held-part h (omega arith) (omega arith))
         (λ a b w. record {
           row = λ r x y k l. by-test (ltb r (t - L)) _
               (λ u.
               let c : r < t - L = ltb-lt _ _ u in
-              w .before (r * s + o + k) (omega (arith, row-end (t - L) s r c, fit r)) ∙ h .row r x (omega arith) k l)
+              other-place o n fit w r k l (clear a b r x c) ∙ h .row r x (omega arith) k l)
               (λ u.
               let c : t - L ≤ r = ltb-ge _ _ u in
               let e : t - L ≡ r = omega arith in
               let m : k < n (t - L) = rw e l in
-              subst (λ (i : ℕ). getD new (i * s + o + k) (pos 0) ≡ q i k) e (w .inside k m));
+              subst (λ (i : ℕ). getD new (place i * s + o + k) (pos 0) ≡ q i k) e (w .inside k m));
         })
 
     module _ {o' lo hi : ℕ} {n' : ℕ → ℕ} {p : ℕ → ℕ → ℤ} (fit' : (r : ℕ) → o' + n' r ≤ s) where
-      -- other rows of the buffer: as they were, where they don't meet the row that is stored
+      -- rows at other places, or in another part of the records: as they were
       turn-apart : ((r : ℕ) → lo ≤ r → r < hi → L ≤ t → t < H + L
-          → (r < t - L) ⊎ ((t - L < r) ⊎ ((o' + n' r ≤ o) ⊎ (o + n (t - L) ≤ o')))) → Held s o' n' lo hi p old → Held s o' n' lo hi p new
-      turn-apart apart h = turned (Held s o' n' lo hi p) (λ e. h)
+          → (¬ (place r ≡ place (t - L))) ⊎ ((o' + n' r ≤ o) ⊎ (o + n (t - L) ≤ o'))) → Stands place s o' n' lo hi p old
+          → Stands place s o' n' lo hi p new
+      turn-apart apart h = turned (Stands place s o' n' lo hi p) (λ e. h)
           (λ a b w. record { row = λ r x y k l. go w r k l (apart r x y a b) ∙ h .row r x y k l })
         where
-          below : (w : Wrote (pos 0) ((t - L) * s + o) (n (t - L)) (q (t - L)) old new) (r k : ℕ) → k < n' r → r < t - L
-              → getD new (r * s + o' + k) (pos 0) ≡ getD old (r * s + o' + k) (pos 0)
-          below w r k l c = w .before (r * s + o' + k) (omega (arith, row-end (t - L) s r c, fit' r))
-
-          above : (w : Wrote (pos 0) ((t - L) * s + o) (n (t - L)) (q (t - L)) old new) (r k : ℕ) → k < n' r → t - L < r
-              → getD new (r * s + o' + k) (pos 0) ≡ getD old (r * s + o' + k) (pos 0)
-          above w r k l c = w .after (r * s + o' + k) (omega (arith, row-end r s (t - L) c, fit (t - L)))
-
-          level : (w : Wrote (pos 0) ((t - L) * s + o) (n (t - L)) (q (t - L)) old new) (r k : ℕ) → k < n' r
-              → (r ≡ t - L → getD new (r * s + o' + k) (pos 0) ≡ getD old (r * s + o' + k) (pos 0))
-              → getD new (r * s + o' + k) (pos 0) ≡ getD old (r * s + o' + k) (pos 0)
-          level w r k l same = by-test (ltb r (t - L)) _ (λ u. below w r k l (ltb-lt _ _ u))
-              (λ u. by-test (ltb (t - L) r) _ (λ v. above w r k l (ltb-lt _ _ v))
-              (λ v. let c : t - L ≤ r = ltb-ge _ _ u in let d : r ≤ t - L = ltb-ge _ _ v in same (omega arith)))
-
-          go : (w : Wrote (pos 0) ((t - L) * s + o) (n (t - L)) (q (t - L)) old new) (r k : ℕ) → k < n' r
-              → ((r < t - L) ⊎ ((t - L < r) ⊎ ((o' + n' r ≤ o) ⊎ (o + n (t - L) ≤ o'))))
-              → getD new (r * s + o' + k) (pos 0) ≡ getD old (r * s + o' + k) (pos 0)
-          go w r k l (inl c) = below w r k l c
-          go w r k l (inr (inl c)) = above w r k l c
-          go w r k l (inr (inr (inl c))) = level w r k l (λ e. w .before (r * s + o' + k) (rw e (omega (arith, rw e at l, rw e at c))))
-          go w r k l (inr (inr (inr c))) = level w r k l (λ e. w .after (r * s + o' + k) (rw e (omega arith)))
-
-      -- rows that the stage has left behind
-      pub turn-past : hi ≤ t - L → Held s o' n' lo hi p old → Held s o' n' lo hi p new
-      turn-past past = turn-apart (λ r x y a b. inl (omega arith))
+          go : (w : Wrote (pos 0) (place (t - L) * s + o) (n (t - L)) (q (t - L)) old new) (r k : ℕ) → k < n' r
+              → ((¬ (place r ≡ place (t - L))) ⊎ ((o' + n' r ≤ o) ⊎ (o + n (t - L) ≤ o')))
+              → getD new (place r * s + o' + k) (pos 0) ≡ getD old (place r * s + o' + k) (pos 0)
+          go w r k l (inl c) = other-place o' n' fit' w r k l c
+          go w r k l (inr (inl c)) = by-test (eqb (place r) (place (t - L))) _
+              (λ u. let e : place r ≡ place (t - L) = eqb-eq _ _ u in w .before (place r * s + o' + k) (rw e (omega arith)))
+              (λ u. other-place o' n' fit' w r k l (eqb-ne u))
+          go w r k l (inr (inr c)) = by-test (eqb (place r) (place (t - L))) _
+              (λ u. let e : place r ≡ place (t - L) = eqb-eq _ _ u in w .after (place r * s + o' + k) (rw e (omega arith)))
+              (λ u. other-place o' n' fit' w r k l (eqb-ne u))
 
       -- a part of the records in front of the stored one
-      pub turn-beside : ((r : ℕ) → o' + n' r ≤ o) → Held s o' n' lo hi p old → Held s o' n' lo hi p new
-      turn-beside side = turn-apart (λ r x y a b. inr (inr (inl (side r))))
+      pub turn-beside : ((r : ℕ) → o' + n' r ≤ o) → Stands place s o' n' lo hi p old → Stands place s o' n' lo hi p new
+      turn-beside side = turn-apart (λ r x y a b. inr (inl (side r)))
 
       -- a part behind it
-      pub turn-behind : ((r : ℕ) → o + n r ≤ o') → Held s o' n' lo hi p old → Held s o' n' lo hi p new
-      turn-behind side = turn-apart (λ r x y a b. inr (inr (inr (side (t - L)))))
+      pub turn-behind : ((r : ℕ) → o + n r ≤ o') → Stands place s o' n' lo hi p old → Stands place s o' n' lo hi p new
+      turn-behind side = turn-apart (λ r x y a b. inr (inr (side (t - L))))
 
-    -- rows that it overwrites from below: one less
-    pub turn-over : {o' hi : ℕ} {n' : ℕ → ℕ} {p : ℕ → ℕ → ℤ} → ((r : ℕ) → o' + n' r ≤ s) → Held s o' n' (min (t - L) H) hi p old
-        → Held s o' n' (min (t + 1 - L) H) hi p new
-    turn-over {o'} {hi} {n'} {p} fit' h = by-test (ltb t L) _
-        (λ a. let l : t < L = ltb-lt _ _ a in turn-apart fit' (λ r x y c d. inr (inl (omega arith))) (held-part h (omega arith) (omega arith)))
-        (λ a. let l : L ≤ t = ltb-ge _ _ a in turn-apart fit' (λ r x y c d. inr (inl (omega arith))) (held-part h (omega arith) (omega arith)))
+-- ---- in a ring: the stage's own rows, the last 24 of them
+
+pub ring-next : {H L t s o : ℕ} {n : ℕ → ℕ} {q : ℕ → ℕ → ℤ} {old new : List ℤ} → Ring-turn H L t s o n q old new → ((r : ℕ) → o + n r ≤ s)
+    → Kept s o n (min (t - L) H - 24) (min (t - L) H) q old → Kept s o n (min (t + 1 - L) H - 24) (min (t + 1 - L) H) q new
+ring-next turn fit h = one-more turn fit (λ a b. ring-clear _ _ (omega arith)) (held-part h (omega arith) (omega arith))
+
+-- ---- where each row has a place of its own
+
+-- the stage's own rows
+pub turn-next : {H L t s o lo : ℕ} {n : ℕ → ℕ} {q : ℕ → ℕ → ℤ} {old new : List ℤ} → Turn H L t s o n q old new → ((r : ℕ) → o + n r ≤ s)
+    → Held s o n lo (min (t - L) H) q old → Held s o n lo (min (t + 1 - L) H) q new
+turn-next turn fit = one-more turn fit (λ a b. own-clear _ _)
+
+module _ {H L t s o : ℕ} {n : ℕ → ℕ} {q : ℕ → ℕ → ℤ} {old new : List ℤ} (turn : Turn H L t s o n q old new) (fit : (r : ℕ) → o + n r ≤ s)
+    {o' hi : ℕ} {n' : ℕ → ℕ} {p : ℕ → ℕ → ℤ} (fit' : (r : ℕ) → o' + n' r ≤ s) where
+  -- rows that the stage has left behind
+  pub turn-past : {lo : ℕ} → hi ≤ t - L → Held s o' n' lo hi p old → Held s o' n' lo hi p new
+  turn-past past = turn-apart turn fit fit' (λ r x y a b. inl (λ e. omega arith))
+
+  -- rows that it overwrites from below: one less
+  pub turn-over : Held s o' n' (min (t - L) H) hi p old → Held s o' n' (min (t + 1 - L) H) hi p new
+  turn-over h = by-test (ltb t L) _
+      (λ a. let l : t < L = ltb-lt _ _ a in turn-apart turn fit fit' (λ r x y c d. inl (λ e. omega arith)) (held-part h (omega arith) (omega arith)))
+      (λ a. let l : L ≤ t = ltb-ge _ _ a in turn-apart turn fit fit' (λ r x y c d. inl (λ e. omega arith)) (held-part h (omega arith) (omega arith)))

@@ -4,9 +4,18 @@ use mathlib.Core.List.{List}
 use Prim.Native.Nat.{ℕ, _+_, _*_, _-_, _<_, _≤_}
 use lib.IntN.{ℤ, pos}
 use Rattle.toolkit.specs.Writes.{Wrote}
+use Rattle.positions.specs.Rings.{ring-row}
 
--- row t − L is stored, where it is one of the H rows, and else nothing is changed
-pub record Turn (H L t s o : ℕ) (n : ℕ → ℕ) (q : ℕ → ℕ → ℤ) (old new : List ℤ) : Type 0 where
-  pub here : L ≤ t → t < H + L → Wrote (pos 0) ((t - L) * s + o) (n (t - L)) (q (t - L)) old new
+-- row t − L is stored at its place, where it is one of the H rows, and else nothing is changed
+pub record Turned (place : ℕ → ℕ) (H L t s o : ℕ) (n : ℕ → ℕ) (q : ℕ → ℕ → ℤ) (old new : List ℤ) : Type 0 where
+  pub here : L ≤ t → t < H + L → Wrote (pos 0) (place (t - L) * s + o) (n (t - L)) (q (t - L)) old new
   pub early : t < L → new ≡ old
   pub late : H + L ≤ t → new ≡ old
+
+-- each row has a place of its own
+abbrev pub Turn : ℕ → ℕ → ℕ → ℕ → ℕ → (ℕ → ℕ) → (ℕ → ℕ → ℤ) → List ℤ → List ℤ → Type 0
+Turn = Turned (λ (r : ℕ). r)
+
+-- the rows share the places of a ring
+abbrev pub Ring-turn : ℕ → ℕ → ℕ → ℕ → ℕ → (ℕ → ℕ) → (ℕ → ℕ → ℤ) → List ℤ → List ℤ → Type 0
+Ring-turn = Turned ring-row

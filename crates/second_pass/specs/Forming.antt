@@ -35,7 +35,7 @@ module _ (f : Frame) (i c count : ℕ) (diagonals verticals : List ℤ) (read : 
   copied-half : (k : Direction) (plane row : List ℤ) → Held-near f i (trials f k) plane → Copied plane row
       → Half (f .width) c 4 (half-count (f .width) c + 4) (trials f k i) row
   copied-half k plane row held copied =
-      half-of-row f (f .width) 0 (i - 8) (min (i + 9) (f .height)) (trials f k) plane (read .taken .wide) held i c (i * f .width) count row
+      half-of-row f (λ (n : ℕ). n) (f .width) 0 (i - 8) (min (i + 9) (f .height)) (trials f k) plane (read .taken .wide) held i c (i * f .width) count row
       (omega arith) (omega (arith, read .inside)) ec en (omega arith) copied
 
   -- its numbers are small

@@ -1,20 +1,23 @@
--- What a stage asks at step t, and what its turn leaves: first 4 rows behind step t, second 12, enhance 14, diagonal 15, out 20.
+-- What a stage asks at step t, and what its turn leaves: load works on row t, first 4 rows behind step t, second 12, enhance 14, diagonal 15, out 20.
 -- Definitions alone. Assumes nothing.
 use mathlib.Core.Path.{_≡_}
 use mathlib.Core.List.{List}
 use Prim.Native.Nat.{ℕ, _+_, _*_, _-_, _<_, _≤_, min}
-use lib.IntN.{ℤ, pos}
+use lib.IntN.{ℤ}
 use lib.ListN.{length}
 use Rattle.frame.specs.Sites.{Frame, Colour, frame}
 use Rattle.frame.specs.declared.Shape.{Shape}
 use Rattle.method.specs.Green.{vertical, diagonal}
 use Rattle.positions.specs.Taken.{Taken}
 use Rattle.positions.specs.HalfRows.{chroma-count, chroma-row, in-halves}
-use Rattle.records.specs.Held.{Held}
-use Rattle.records.specs.Turns.{Turn}
+use Rattle.positions.specs.Rings.{Round}
+use Rattle.records.specs.Held.{Held, Kept}
+use Rattle.records.specs.Turns.{Turn, Ring-turn}
 use Rattle.records.specs.Layout.{record-size, gradient-size, final-part, other-part, top-size}
 use Rattle.records.specs.Quantities.{norths, gradient-entry, trials, greens, finals, others, outputs}
 use Rattle.records.specs.Stages.{Gradients, Plane-size}
+use Rattle.mosaic_rows.specs.RingRows.{Rows-kept}
+use Rattle.first_stage.specs.FirstStage.{Sums-kept, Line-loaded}
 
 -- a frame, and the buffers that all stages share
 pub record Buffers (f : Frame) (tops work : List ℤ) : Type 0 where
@@ -22,64 +25,89 @@ pub record Buffers (f : Frame) (tops work : List ℤ) : Type 0 where
   pub tops-size : length tops ≡ 2 * top-size
   pub work-size : length work ≡ f .height * record-size (f .width)
 
--- a turn that stores a quantity of the red and blue sites in a plane, or in a part of the records
-abbrev pub Chroma-turn : Frame → ℕ → ℕ → ℕ → ℕ → (ℕ → ℕ → ℤ) → List ℤ → List ℤ → Type 0
-Chroma-turn f L t s o q old new = Turn (f .height) L t s o (chroma-count f) (chroma-row f q) old new
+-- a turn that stores a quantity of the red and blue sites in a plane, and in the records from entry o on
+abbrev pub Chroma-turn : Frame → ℕ → ℕ → (ℕ → ℕ → ℤ) → List ℤ → List ℤ → Type 0
+Chroma-turn f L t q old new = Turn (f .height) L t (f .width) 0 (chroma-count f) (chroma-row f q) old new
 
--- a quantity of the red and blue sites of the rows from lo to hi − 1
-abbrev pub Chroma-held : Frame → ℕ → ℕ → ℕ → ℕ → (ℕ → ℕ → ℤ) → List ℤ → Type 0
-Chroma-held f s o lo hi q buffer = Held s o (chroma-count f) lo hi (chroma-row f q) buffer
+abbrev pub Record-turn : Frame → ℕ → ℕ → ℕ → (ℕ → ℕ → ℤ) → List ℤ → List ℤ → Type 0
+Record-turn f L t o q old new = Ring-turn (f .height) L t (record-size (f .width)) o (chroma-count f) (chroma-row f q) old new
+
+-- a quantity of the red and blue sites of the rows from lo to hi − 1, in a plane and in the records
+abbrev pub Chroma-held : Frame → ℕ → ℕ → (ℕ → ℕ → ℤ) → List ℤ → Type 0
+Chroma-held f lo hi q plane = Held (f .width) 0 (chroma-count f) lo hi (chroma-row f q) plane
+
+abbrev pub Chroma-kept : Frame → ℕ → ℕ → ℕ → (ℕ → ℕ → ℤ) → List ℤ → Type 0
+Chroma-kept f o lo hi q work = Kept (record-size (f .width)) o (chroma-count f) lo hi (chroma-row f q) work
+
+-- ---- load, in its own step
+pub record Load-turned (f : Frame) (t : ℕ) (rows rows' alongs alongs' : List ℕ) : Type 0 where
+  pub here : t < f .height → Line-loaded f t rows rows' alongs alongs'
+  pub late : f .height ≤ t → (rows' ≡ rows) × (alongs' ≡ alongs)
 
 -- ---- first, 4 rows behind
-pub record First-asks (f : Frame) (t : ℕ) (tops work : List ℤ) : Type 0 where
+pub record First-asks (f : Frame) (t base : ℕ) (rows alongs : List ℕ) (tops work : List ℤ) : Type 0 where
   pub buffers : Buffers f tops work
+  pub round : Round base (t - 24) t
+  pub kept : Rows-kept f (t - 4 - 4) (min (t + 5 - 4) (f .height)) rows
+  pub sums : Sums-kept f (t - 4 - 4) (min (t + 5 - 4) (f .height)) rows alongs
   pub above : Gradients f (t - 4 - 2) (min (t - 4) (f .height)) tops work
 
-pub record First-turned (f : Frame) (t : ℕ) (tops tops' work work' red red' blue blue' : List ℤ) : Type 0 where
+pub record First-turns (f : Frame) (t : ℕ) (tops tops' work work' red red' blue blue' : List ℤ) : Type 0 where
   pub tops-turn : Turn 2 4 t top-size 0 (λ r. f .width) (in-halves f (norths f)) tops tops'
-  pub work-turn : Turn (f .height) 4 t (record-size (f .width)) 0 (λ r. gradient-size (f .width)) (gradient-entry f) work work'
-  pub red-turn : Chroma-turn f 4 t (f .width) 0 (trials f diagonal) red red'
-  pub blue-turn : Chroma-turn f 4 t (f .width) 0 (trials f vertical) blue blue'
+  pub work-turn : Ring-turn (f .height) 4 t (record-size (f .width)) 0 (λ r. gradient-size (f .width)) (gradient-entry f) work work'
+  pub red-turn : Chroma-turn f 4 t (trials f diagonal) red red'
+  pub blue-turn : Chroma-turn f 4 t (trials f vertical) blue blue'
+
+pub record First-turned (shape : Shape) (t base : ℕ) (rows alongs : List ℕ) (tops tops' work work' red red' blue blue' : List ℤ) : Type 0 where
+  pub turn : (zs : List ℕ) → First-asks (frame shape zs) t base rows alongs tops work
+      → First-turns (frame shape zs) t tops tops' work work' red red' blue blue'
 
 -- ---- second, 12 rows behind
 pub record Second-asks (f : Frame) (t : ℕ) (red blue : List ℤ) : Type 0 where
   pub taken : Taken f
   pub red-size : Plane-size f red
   pub blue-size : Plane-size f blue
-  pub diagonals : Chroma-held f (f .width) 0 (t - 12 - 8) (min (t + 9 - 12) (f .height)) (trials f diagonal) red
-  pub verticals : Chroma-held f (f .width) 0 (t - 12 - 8) (min (t + 9 - 12) (f .height)) (trials f vertical) blue
+  pub diagonals : Chroma-held f (t - 12 - 8) (min (t + 9 - 12) (f .height)) (trials f diagonal) red
+  pub verticals : Chroma-held f (t - 12 - 8) (min (t + 9 - 12) (f .height)) (trials f vertical) blue
 
 pub record Second-turned (shape : Shape) (t : ℕ) (red blue green green' : List ℤ) : Type 0 where
   pub turn : (zs : List ℕ) → Second-asks (frame shape zs) t red blue
-      → Chroma-turn (frame shape zs) 12 t (shape .width) 0 (greens (frame shape zs)) green green'
+      → Chroma-turn (frame shape zs) 12 t (greens (frame shape zs)) green green'
 
 -- ---- enhance, 14 rows behind
-pub record Enhance-asks (f : Frame) (t : ℕ) (tops work green : List ℤ) : Type 0 where
+pub record Enhance-asks (f : Frame) (t base : ℕ) (tops work green : List ℤ) : Type 0 where
   pub buffers : Buffers f tops work
+  pub round : Round base (t - 24) t
   pub green-size : Plane-size f green
   pub gradients : Gradients f (t - 14 - 2) (min (t + 1 - 14) (f .height)) tops work
-  pub differences : Chroma-held f (f .width) 0 (t - 14 - 2) (min (t + 3 - 14) (f .height)) (greens f) green
+  pub differences : Chroma-held f (t - 14 - 2) (min (t + 3 - 14) (f .height)) (greens f) green
 
-pub record Enhance-turned (shape : Shape) (t : ℕ) (tops green work work' : List ℤ) : Type 0 where
-  pub turn : (zs : List ℕ) → Enhance-asks (frame shape zs) t tops work green
-      → Chroma-turn (frame shape zs) 14 t (record-size (shape .width)) (final-part (shape .width)) (finals (frame shape zs)) work work'
+pub record Enhance-turned (shape : Shape) (t base : ℕ) (tops green work work' : List ℤ) : Type 0 where
+  pub turn : (zs : List ℕ) → Enhance-asks (frame shape zs) t base tops work green
+      → Record-turn (frame shape zs) 14 t (final-part (shape .width)) (finals (frame shape zs)) work work'
 
 -- ---- diagonal, 15 rows behind
-pub record Diagonal-asks (f : Frame) (t : ℕ) (tops work : List ℤ) : Type 0 where
+pub record Diagonal-asks (f : Frame) (t base : ℕ) (tops work : List ℤ) : Type 0 where
   pub buffers : Buffers f tops work
+  pub round : Round base (t - 24) t
   pub gradients : Gradients f (t - 15 - 2) (min (t + 1 - 15) (f .height)) tops work
-  pub differences : Chroma-held f (record-size (f .width)) (final-part (f .width)) (t - 15 - 1) (min (t + 2 - 15) (f .height)) (finals f) work
+  pub differences : Chroma-kept f (final-part (f .width)) (t - 15 - 1) (min (t + 2 - 15) (f .height)) (finals f) work
 
-pub record Diagonal-turned (shape : Shape) (t : ℕ) (tops work work' : List ℤ) : Type 0 where
-  pub turn : (zs : List ℕ) → Diagonal-asks (frame shape zs) t tops work
-      → Chroma-turn (frame shape zs) 15 t (record-size (shape .width)) (other-part (shape .width)) (others (frame shape zs)) work work'
+pub record Diagonal-turned (shape : Shape) (t base : ℕ) (tops work work' : List ℤ) : Type 0 where
+  pub turn : (zs : List ℕ) → Diagonal-asks (frame shape zs) t base tops work
+      → Record-turn (frame shape zs) 15 t (other-part (shape .width)) (others (frame shape zs)) work work'
 
 -- ---- out, 20 rows behind
-pub record Out-asks (f : Frame) (t : ℕ) (tops work : List ℤ) : Type 0 where
+pub record Out-asks (f : Frame) (t base : ℕ) (rows : List ℕ) (tops work : List ℤ) : Type 0 where
   pub buffers : Buffers f tops work
+  pub round : Round base (t - 24) t
+  pub kept : Rows-kept f (t - 20) (min (t + 1 - 20) (f .height)) rows
   pub gradients : Gradients f (t - 20 - 2) (min (t + 1 - 20) (f .height)) tops work
-  pub own : Chroma-held f (record-size (f .width)) (final-part (f .width)) (t - 20 - 1) (min (t + 2 - 20) (f .height)) (finals f) work
-  pub other : Chroma-held f (record-size (f .width)) (other-part (f .width)) (t - 20 - 1) (min (t + 2 - 20) (f .height)) (others f) work
+  pub own : Chroma-kept f (final-part (f .width)) (t - 20 - 1) (min (t + 2 - 20) (f .height)) (finals f) work
+  pub other : Chroma-kept f (other-part (f .width)) (t - 20 - 1) (min (t + 2 - 20) (f .height)) (others f) work
 
 abbrev pub Out-turn : Frame → ℕ → Colour → List ℤ → List ℤ → Type 0
 Out-turn f t c old new = Turn (f .height) 20 t (f .width) 0 (λ r. f .width) (outputs f c) old new
+
+pub record Out-turned (shape : Shape) (t base : ℕ) (c : Colour) (rows : List ℕ) (tops work old new : List ℤ) : Type 0 where
+  pub turn : (zs : List ℕ) → Out-asks (frame shape zs) t base rows tops work → Out-turn (frame shape zs) t c old new

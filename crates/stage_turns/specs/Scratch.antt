@@ -1,17 +1,22 @@
--- The lengths of the local arrays. Definitions alone. Assumes nothing.
+-- The lengths of the local arrays that every stage fills anew. Definitions alone. Assumes nothing.
 use mathlib.Core.Path.{_≡_}
 use mathlib.Core.List.{List}
 use Prim.Native.Nat.{ℕ}
 use lib.IntN.{ℤ}
 use lib.ListN.{length}
 
--- eight rows of samples, eight of a, and one of sums down the columns
-pub record Row-arrays (rows alongs v : List ℕ) : Type 0 where
-  pub rows-size : length rows ≡ 32896
-  pub alongs-size : length alongs ≡ 32896
+-- Two whole rows of the first stage: v holds a with rows and columns exchanged, gradients holds E, S or N before its halves are taken.
+pub record Row-arrays (v : List ℕ) (gradients : List ℤ) : Type 0 where
   pub v-size : length v ≡ 4112
+  pub gradients-size : length gradients ≡ 4112
 
--- nine half rows
+-- Nine half rows. They have no names of their own, since each stage fills them anew and names them after what it keeps there. n is N of the
+-- sites that the stage works on; the others are
+--   first      a, b                gH and gV less 8·X
+--   second     a, b, d; e, f, g    r_H, r_V and r_D; the sums FH/2, FV/2 and FD
+--   enhance    a; b                D; M
+--   diagonal   a, b; d             the final differences of the rows above and below; the means of the corners
+--   out        a, b; l, m; d to m  both differences of the red and blue sites; of the green sites; the six half rows of outputs
 pub record Half-arrays (n a b d e f g l m : List ℤ) : Type 0 where
   pub n-size : length n ≡ 2064
   pub a-size : length a ≡ 2064

@@ -14,14 +14,14 @@ use Rattle.positions.specs.Places.{plane-row}
 use Rattle.records.specs.Quantities.{trials}
 use Rattle.records.specs.Stages.{Second-reads}
 use Rattle.half_rows.specs.Near.{chroma-count-is}
-use Rattle.sums.specs.Sums.{Held-near, Sums-read, Sized, Sums-room}
+use Rattle.sums.specs.Sums.{entries-of, with-columns, Held-near, Sums-read, Sized, Sums-room}
 use Rattle.sums.specs.Nearby.{near-above, near-below}
-use Rattle.sums.specs.Sizes.{sized-as, row-sized, plane-sized, columns-sized, rows-sized}
+use Rattle.sums.specs.Sizes.{sized-as, entries-sized, row-sized, plane-sized, columns-most, rows-most}
 use Rattle.sums.specs.Steps.{middle}
 use Rattle.sums.specs.Widening.{Stepped}
 
 -- the sums before a step leave room for it
-pub before : {m hi : ℕ} {sums : List ℤ} → Sized m 4 hi sums → m ≤ 1048576 → Sized 1048576 4 hi sums
+pub before : {m n hi : ℕ} {sums : List ℤ} → Sized m 4 hi sums → m ≤ n → Sized n 4 hi sums
 before s l = sized-as s l (omega arith) (omega arith)
 
 module _ {f : Frame} {i count : ℕ} {diagonals verticals : List ℤ} (read : Second-reads f i diagonals verticals)
@@ -44,22 +44,23 @@ module _ {f : Frame} {i count : ℕ} {diagonals verticals ph pv pd : List ℤ} (
 
   module _ {t : ℕ} (few : t ≤ 4) where
     -- `add_columns`, with a half row of r_k
-    pub columns-asked : (k : Direction) (row sums : List ℤ) → Half (f .width) start 0 (chroma-count f i + 8) (trials f k i) row
-        → length sums ≡ 2064 → Sized 1048576 4 (count + 4) sums
-        → ((t ≤ 4) × (count ≤ 2048) × (length sums ≡ 2064)) × ((Sized 32760 0 (count + 8) row) × (Sized 1048576 4 (count + 4) sums))
+    pub columns-asked : {m : ℕ} (k : Direction) (row sums : List ℤ) → Half (f .width) start 0 (chroma-count f i + 8) (trials f k i) row
+        → length sums ≡ 2064 → Sized m 4 (count + 4) sums
+        → ((t ≤ 4) × (count ≤ 2048) × (length sums ≡ 2064)) × ((Sized 32760 0 (count + 8) row) × (Sized m 4 (count + 4) sums))
     columns-asked k row sums h e s =
         let p = read .planes in
         ((few, count-room p same .0, e), (sized-as (row-sized f (p .taken) k start i row (p .inside) h) (omega arith) (omega arith) (omega arith), s))
 
     -- `add_rows`, with a half row and a plane of r_k
-    pub rows-asked : (k : Direction) (row plane sums : List ℤ) (above below : ℕ) → Half (f .width) start 4 (chroma-count f i + 4) (trials f k i) row
+    pub rows-asked : {m : ℕ} (k : Direction) (row plane sums : List ℤ) (above below : ℕ)
+        → Half (f .width) start 4 (chroma-count f i + 4) (trials f k i) row
         → Held-near f i (trials f k) plane → length plane ≡ f .height * f .width
         → (above ≡ reflect (f .height) (subℕ i (2 * t))) × (above < f .height) → (below ≡ reflect (f .height) (pos (i + 2 * t))) × (below < f .height)
-        → length sums ≡ 2064 → Sized 1048576 4 (count + 4) sums
+        → length sums ≡ 2064 → Sized m 4 (count + 4) sums
         → ((above * f .width + count ≤ length plane) × (below * f .width + count ≤ length plane) × (length plane ≤ 67108864) × (count ≤ 2048)
         × (length sums ≡ 2064))
         × ((Sized 32760 4 (count + 4) row) × (Sized 32760 (above * f .width) (above * f .width + count) plane)
-        × (Sized 32760 (below * f .width) (below * f .width + count) plane) × (Sized 1048576 4 (count + 4) sums))
+        × (Sized 32760 (below * f .width) (below * f .width + count) plane) × (Sized m 4 (count + 4) sums))
     rows-asked k row plane sums above below h held size a b e s =
         let p = read .planes in
         let u = row-place p same above (a .1) in
@@ -75,28 +76,49 @@ module _ {f : Frame} {i count : ℕ} {diagonals verticals ph pv pd : List ℤ} (
           ),
         )
 
-    pub room-next : (above below : ℕ) (fh fv fd new-fh new-fv mid-fd new-fd : List ℤ)
+    -- `add_both`, with both
+    pub both-asked : {m : ℕ} (k : Direction) (row plane sums : List ℤ) (above below : ℕ)
+        → Half (f .width) start 0 (chroma-count f i + 8) (trials f k i) row
+        → Held-near f i (trials f k) plane → length plane ≡ f .height * f .width
+        → (above ≡ reflect (f .height) (subℕ i (2 * t))) × (above < f .height)
+        → (below ≡ reflect (f .height) (pos (i + 2 * t))) × (below < f .height)
+        → length sums ≡ 2064 → Sized m 4 (count + 4) sums
+        → ((t ≤ 4) × (above * f .width + count ≤ length plane) × (below * f .width + count ≤ length plane) × (length plane ≤ 67108864)
+        × (count ≤ 2048) × (length sums ≡ 2064))
+        × ((Sized 32760 0 (count + 8) row) × (Sized 32760 (above * f .width) (above * f .width + count) plane)
+        × (Sized 32760 (below * f .width) (below * f .width + count) plane) × (Sized m 4 (count + 4) sums))
+    both-asked k row plane sums above below h held size a b e s =
+        let c = columns-asked k row sums h e s in
+        let r = rows-asked k row plane sums above below (middle (chroma-count f i) h) held size a b e s in
+        ((few, r .0 .0, r .0 .1, r .0 .2, r .0 .3, e), (c .1 .0, r .1 .1, r .1 .2, s))
+
+    pub room-next : (above below : ℕ) (fh fv fd new-fh new-fv new-fd : List ℤ)
         → (above ≡ reflect (f .height) (subℕ i (2 * t))) × (above < f .height)
         → (below ≡ reflect (f .height) (pos (i + 2 * t))) × (below < f .height) → 1 ≤ t → Sums-room ((t - 1) * 131040) count fh fv fd
-        → Stepped t (above * f .width) (below * f .width) count diagonals verticals ph pv pd fh fv fd new-fh new-fv mid-fd new-fd
+        → Stepped t (above * f .width) (below * f .width) count diagonals verticals ph pv pd fh fv fd new-fh new-fv new-fd
         → Sums-room (t * 131040) count new-fh new-fv new-fd
-    room-next above below fh fv fd new-fh new-fv mid-fd new-fd a b one room new =
+    room-next above below fh fv fd new-fh new-fv new-fd a b one room new =
         let p = read .planes in
-        let h = columns-asked horizontal ph fh (read .across-row) (room .across-size) (before (room .across-most) (omega arith)) in
+        let h = columns-asked horizontal ph fh (read .across-row) (room .across-size) (room .across-most) in
         let v = rows-asked vertical pv verticals fv above below (read .down-row) (p .verticals-held) (p .verticals-size) a b (room .down-size)
-        (before (room .down-most) (omega arith)) in
-        let c = columns-asked diagonal pd fd (read .both-row) (room .both-size) (before (room .both-most) (omega arith)) in
-        let mid = columns-sized t count few (c .1 .0) (room .both-most) (new .both-first) in
-        let d = rows-asked diagonal pd diagonals mid-fd above below (middle (chroma-count f i) (read .both-row)) (p .diagonals-held)
-        (p .diagonals-size) a b (new .both-first .size) (before mid (omega arith)) in
+        (room .down-most) in
+        let d = both-asked diagonal pd diagonals fd above below (read .both-row) (p .diagonals-held) (p .diagonals-size) a b (room .both-size)
+        (room .both-most) in
         record {
           across-size = new .across .size;
           down-size = new .down-columns .size;
-          both-size = new .both-second .size;
-          across-most = sized-as (columns-sized t count few (h .1 .0) (room .across-most) (new .across)) (omega arith) (omega arith) (omega arith);
-          down-most = sized-as (rows-sized count (v .1 .0) (v .1 .1) (v .1 .2) (room .down-most) (new .down-columns)) (omega arith) (omega arith)
-              (omega arith);
-          both-most = sized-as (rows-sized count (d .1 .0) (d .1 .1) (d .1 .2) mid (new .both-second)) (omega arith) (omega arith) (omega arith);
+          both-size = new .both .size;
+          across-most = entries-sized (new .across) (λ x l u.
+              omega (arith, columns-most t count (entries-of fh) few (h .1 .0) x l u (room .across-most .each x l u)));
+          down-most = entries-sized (new .down-columns) (λ x l u.
+              omega (arith, rows-most count (entries-of fv) (v .1 .0) (v .1 .1) (v .1 .2) x l u (room .down-most .each x l u)));
+          both-most = entries-sized (new .both) (λ x l u.
+              let c = columns-most t count (entries-of fd) few (d .1 .0) x l u (room .both-most .each x l u) in
+              omega (
+                arith,
+                rows-most count (with-columns pd t (entries-of fd)) (sized-as (d .1 .0) (omega arith) (omega arith) (omega arith))
+                    (d .1 .1) (d .1 .2) x l u c,
+              ));
         }
 
 -- no sums yet

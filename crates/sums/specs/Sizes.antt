@@ -27,6 +27,10 @@ use Rattle.sums.specs.Gaps.{apart-most}
 pub sized-as : {m n lo hi l h : ℕ} {row : List ℤ} → Sized m lo hi row → m ≤ n → lo ≤ l → h ≤ hi → Sized n l h row
 sized-as s a b c = record { each = λ x p q. omega (arith, s .each x (omega arith) (omega arith)) }
 
+pub entries-sized : {m n lo hi : ℕ} {g : ℕ → ℤ} {row : List ℤ} → Entries (pos 0) n lo hi g row
+    → ((x : ℕ) → lo ≤ x → x < hi → natAbs (g x) ≤ m) → Sized m lo hi row
+entries-sized e l = record { each = λ x a b. size-read _ (e .at x a b) (l x a b) }
+
 module _ (f : Frame) (t : Taken f) (k : Direction) where
   trial-most : (i j : ℕ) → i < f .height → j < f .width → natAbs (trials f k i j) ≤ 32760
   unfolding trials
@@ -47,7 +51,7 @@ module _ (f : Frame) (t : Taken f) (k : Direction) where
         let inside : x - a < chroma-count f r = omega (arith, counts-alike f i r (near .even)) in
         size-read _
         (ap (λ (y : ℕ). getD plane y (pos 0)) (sym place)
-        ∙ entry-of-row f (f .width) 0 (i - 8) (min (i + 9) (f .height)) (trials f k) plane (t .wide) held r (x - a) a
+        ∙ entry-of-row f (λ (n : ℕ). n) (f .width) 0 (i - 8) (min (i + 9) (f .height)) (trials f k) plane (t .wide) held r (x - a) a
         (near .low) (near .high) inside (omega arith))
         (trial-most r (chroma-start (f .phase) r + 2 * (x - a)) (omega (arith, near .high))
         (count-column (f .width) (chroma-start (f .phase) r) (x - a) (chroma-small (f .phase) r)
@@ -63,23 +67,17 @@ two-more m s x y z a b c d = go s (apart x y) (apart x z) a (apart-most x y b c)
     go : (s : ℤ) (p q : ℕ) → natAbs s ≤ m → p ≤ 65520 → q ≤ 65520 → natAbs (s +ℤ pos p +ℤ pos q) ≤ m + 131040
     go s p q = rw (as-difference s) (simp to-naturals (omega arith))
 
-pub columns-sized : {m : ℕ} (t n : ℕ) {row old new : List ℤ} → t ≤ 4 → Sized 32760 0 (n + 8) row → Sized m 4 (n + 4) old
-    → Entries (pos 0) 2064 4 (n + 4) (with-columns row t old) new → Sized (m + 131040) 4 (n + 4) new
+pub columns-most : {m : ℕ} (t n : ℕ) {row : List ℤ} (old : ℕ → ℤ) → t ≤ 4 → Sized 32760 0 (n + 8) row
+    → (x : ℕ) → 4 ≤ x → x < n + 4 → natAbs (old x) ≤ m → natAbs (with-columns row t old x) ≤ m + 131040
 unfolding with-columns
-columns-sized {m} t n {row} {old} h r s e = record {
-  each = λ x a b. size-read _ (e .at x a b)
-      (two-more m (getD old x (pos 0)) (getD row x (pos 0)) (getD row (x - t) (pos 0)) (getD row (x + t) (pos 0)) (s .each x a b)
-      (r .each x (omega arith) (omega arith)) (r .each (x - t) (omega arith) (omega arith))
-      (r .each (x + t) (omega arith) (omega arith)));
-}
+columns-most {m} t n {row} old h r x a b s =
+    two-more m (old x) (getD row x (pos 0)) (getD row (x - t) (pos 0)) (getD row (x + t) (pos 0)) s (r .each x (omega arith) (omega arith))
+    (r .each (x - t) (omega arith) (omega arith)) (r .each (x + t) (omega arith) (omega arith))
 
-pub rows-sized : {m up down : ℕ} (n : ℕ) {row plane old new : List ℤ} → Sized 32760 4 (n + 4) row → Sized 32760 up (up + n) plane
-    → Sized 32760 down (down + n) plane → Sized m 4 (n + 4) old → Entries (pos 0) 2064 4 (n + 4) (with-rows row plane up down old) new
-    → Sized (m + 131040) 4 (n + 4) new
+pub rows-most : {m up down : ℕ} (n : ℕ) {row plane : List ℤ} (old : ℕ → ℤ) → Sized 32760 4 (n + 4) row → Sized 32760 up (up + n) plane
+    → Sized 32760 down (down + n) plane
+    → (x : ℕ) → 4 ≤ x → x < n + 4 → natAbs (old x) ≤ m → natAbs (with-rows row plane up down old x) ≤ m + 131040
 unfolding with-rows
-rows-sized {m} {up} {down} n {row} {plane} {old} r u d s e = record {
-  each = λ x a b. size-read _ (e .at x a b)
-      (two-more m (getD old x (pos 0)) (getD row x (pos 0)) (getD plane (up + (x - 4)) (pos 0)) (getD plane (down + (x - 4)) (pos 0))
-      (s .each x a b) (r .each x a b) (u .each (up + (x - 4)) (omega arith) (omega arith))
-      (d .each (down + (x - 4)) (omega arith) (omega arith)));
-}
+rows-most {m} {up} {down} n {row} {plane} old r u d x a b s =
+    two-more m (old x) (getD row x (pos 0)) (getD plane (up + (x - 4)) (pos 0)) (getD plane (down + (x - 4)) (pos 0)) s (r .each x a b)
+    (u .each (up + (x - 4)) (omega arith) (omega arith)) (d .each (down + (x - 4)) (omega arith) (omega arith))

@@ -69,7 +69,7 @@ module _ (f : Frame) (taken : Taken f) (i : ℕ) (inside : i < f .height) (q : �
       (sym (reflect-here (f .height) i (taken .tall) inside)) e
 
   -- along the row
-  pub columns-next : (row old : List ℤ) (s t d : ℕ) → Half (f .width) start 0 (chroma-count f i + 8) (q i) row → getD old x (pos 0) ≡ pos s
+  pub columns-next : (row : List ℤ) (old : ℕ → ℤ) (s t d : ℕ) → Half (f .width) start 0 (chroma-count f i + 8) (q i) row → old x ≡ pos s
       → s ≡ column-sum-to n (around-entry f q i x) + d → t ≡ column-sum-to (suc n) (around-entry f q i x) + d
       → with-columns row (suc n) old x ≡ pos t
   unfolding with-columns
@@ -79,9 +79,10 @@ module _ (f : Frame) (taken : Taken f) (i : ℕ) (inside : i < f .height) (q : �
       (beside row (x + suc n) (pos 2 *ℤ pos (suc n)) h (omega arith) (omega arith) (east-step start x n low))
 
   -- down the column
-  pub rows-next : (row plane old : List ℤ) (up down above below s t d : ℕ) → Half (f .width) start 4 (chroma-count f i + 4) (q i) row
+  pub rows-next : (row plane : List ℤ) (old : ℕ → ℤ) (up down above below s t d : ℕ)
+      → Half (f .width) start 4 (chroma-count f i + 4) (q i) row
       → Held-near f i q plane → above ≡ reflect (f .height) (subℕ i (2 * suc n)) → below ≡ reflect (f .height) (pos (i + 2 * suc n))
-      → up ≡ above * f .width → down ≡ below * f .width → getD old x (pos 0) ≡ pos s
+      → up ≡ above * f .width → down ≡ below * f .width → old x ≡ pos s
       → s ≡ column-sum-to n (exchanged (around-entry f q i x)) + d → t ≡ column-sum-to (suc n) (exchanged (around-entry f q i x)) + d
       → with-rows row plane up down old x ≡ pos t
   unfolding with-rows
@@ -94,5 +95,5 @@ module _ (f : Frame) (taken : Taken f) (i : ℕ) (inside : i < f .height) (q : �
       off : (r a : ℕ) (o : ℤ) → Row-near (f .height) i r → r ≡ reflect (f .height) (pos i +ℤ o) → a ≡ r * f .width
           → getD plane (a + (x - 4)) (pos 0) ≡ around-entry f q i x o (pos 0)
       off r a o near er ea =
-          row-near-even f (f .width) 0 (i - 8) (min (i + 9) (f .height)) q plane (taken .wide) held r i (x - 4) a o er (near .low) (near .high)
+          row-near-even f (λ (n : ℕ). n) (f .width) 0 (i - 8) (min (i + 9) (f .height)) q plane (taken .wide) held r i (x - 4) a o er (near .low) (near .high)
           (near .even) (omega arith) (omega arith)

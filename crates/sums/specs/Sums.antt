@@ -18,17 +18,25 @@ use Rattle.records.specs.Stages.{Second-reads}
 unfoldable pub column-sum-to : ℕ → Around ℤ → ℕ
 column-sum-to n r = sum-about n (λ t. apart (r (pos 0) (pos 0)) (r (pos 0) (pos 2 *ℤ t)))
 
--- entry x of a half row of sums, with the distances to the entries t before and t behind
-unfoldable pub with-columns : List ℤ → ℕ → List ℤ → ℕ → ℤ
+-- the entries of a half row
+abbrev pub entries-of : List ℤ → ℕ → ℤ
+entries-of row x = getD row x (pos 0)
+
+-- entry x of sums, with the distances to the entries t before and t behind
+unfoldable pub with-columns : List ℤ → ℕ → (ℕ → ℤ) → ℕ → ℤ
 with-columns row t sums x =
-    getD sums x (pos 0) +ℤ pos (apart (getD row x (pos 0)) (getD row (x - t) (pos 0)))
+    sums x +ℤ pos (apart (getD row x (pos 0)) (getD row (x - t) (pos 0)))
     +ℤ pos (apart (getD row x (pos 0)) (getD row (x + t) (pos 0)))
 
 -- the same with the distances to the rows of a plane that start at up and at down
-unfoldable pub with-rows : List ℤ → List ℤ → ℕ → ℕ → List ℤ → ℕ → ℤ
+unfoldable pub with-rows : List ℤ → List ℤ → ℕ → ℕ → (ℕ → ℤ) → ℕ → ℤ
 with-rows row plane up down sums x =
-    getD sums x (pos 0) +ℤ pos (apart (getD row x (pos 0)) (getD plane (up + (x - 4)) (pos 0)))
+    sums x +ℤ pos (apart (getD row x (pos 0)) (getD plane (up + (x - 4)) (pos 0)))
     +ℤ pos (apart (getD row x (pos 0)) (getD plane (down + (x - 4)) (pos 0)))
+
+-- the same with the distances of both kinds
+abbrev pub with-both : List ℤ → ℕ → List ℤ → ℕ → ℕ → (ℕ → ℤ) → ℕ → ℤ
+with-both row t plane up down sums = with-rows row plane up down (with-columns row t sums)
 
 -- what stands around the site of entry x of the half row of row i
 abbrev pub around-entry : Frame → (ℕ → ℕ → ℤ) → ℕ → ℕ → Around ℤ

@@ -10,7 +10,7 @@ ghost use Rattle.frame.specs.Sites.{frame};
 ghost use Rattle.method.specs.Gradients.{apart};
 ghost use Rattle.positions.specs.HalfRows.{chroma-start, half-count};
 ghost use Rattle.positions.specs.Taken.{Some-samples};
-ghost use Rattle.sums.specs.Sums.{with-columns, with-rows, Sums-read, Widens, Summed, Sized, Sums-room};
+ghost use Rattle.sums.specs.Sums.{entries-of, with-columns, with-rows, with-both, Sums-read, Widens, Summed, Sized, Sums-room};
 
 // |x − y|.
 fn gap(x: i32, y: i32) -> i32
@@ -47,7 +47,7 @@ fn clear(sums: &mut [i32; 2064], count: usize)
 fn add_columns(row: &[i32; 2064], t: usize, sums: &mut [i32; 2064], count: usize)
     requires { ⌜ (t ≤ 4) × (count ≤ 2048) × (length (now sums) ≡ 2064) ⌝ }
     requires { ⌜ (Sized 32760 0 (count + 8) (now row)) × (Sized 1048576 4 (count + 4) (now sums)) ⌝ }
-    ensures { λ _. ⌜ Entries (pos 0) 2064 4 (count + 4) (with-columns (now (row .entry)) t (now (sums .entry))) (now (sums .exit)) ⌝ }
+    ensures { λ _. ⌜ Entries (pos 0) 2064 4 (count + 4) (with-columns (now (row .entry)) t (entries-of (now (sums .entry)))) (now (sums .exit)) ⌝ }
 {
     let mut k = 0;
     while k < count {
@@ -70,11 +70,38 @@ fn add_rows(
     requires { ⌜ (Sized 32760 4 (count + 4) (now row)) × (Sized 32760 up (up + count) (now plane))
         × (Sized 32760 down (down + count) (now plane)) × (Sized 1048576 4 (count + 4) (now sums)) ⌝ }
     ensures { λ _. ⌜ Entries (pos 0) 2064 4 (count + 4)
-        (with-rows (now (row .entry)) (now (plane .entry)) up down (now (sums .entry))) (now (sums .exit)) ⌝ }
+        (with-rows (now (row .entry)) (now (plane .entry)) up down (entries-of (now (sums .entry)))) (now (sums .exit)) ⌝ }
 {
     let mut k = 0;
     while k < count {
         sums[k + 4] = add_gaps(sums[k + 4], row[k + 4], plane[up + k], plane[down + k]);
+        k += 1;
+    }
+}
+
+// Adds the distances of both kinds: to the entries t before and t behind, and to the rows of the plane that start at up and at down.
+// The sums leave room for the first two distances: 917536 + 2 * 65520 = 1048576.
+fn add_both(
+    row: &[i32; 2064],
+    t: usize,
+    plane: &[i32],
+    up: usize,
+    down: usize,
+    sums: &mut [i32; 2064],
+    count: usize,
+)
+    requires { ⌜ (t ≤ 4) × (up + count ≤ length (now plane)) × (down + count ≤ length (now plane))
+        × (length (now plane) ≤ 67108864) × (count ≤ 2048) × (length (now sums) ≡ 2064) ⌝ }
+    requires { ⌜ (Sized 32760 0 (count + 8) (now row)) × (Sized 32760 up (up + count) (now plane))
+        × (Sized 32760 down (down + count) (now plane)) × (Sized 917536 4 (count + 4) (now sums)) ⌝ }
+    ensures { λ _. ⌜ Entries (pos 0) 2064 4 (count + 4)
+        (with-both (now (row .entry)) t (now (plane .entry)) up down (entries-of (now (sums .entry)))) (now (sums .exit)) ⌝ }
+{
+    let mut k = 0;
+    while k < count {
+        let x = row[k + 4];
+        let columns = add_gaps(sums[k + 4], x, row[k + 4 - t], row[k + 4 + t]);
+        sums[k + 4] = add_gaps(columns, x, plane[up + k], plane[down + k]);
         k += 1;
     }
 }
@@ -107,8 +134,7 @@ fn add_ring(
     let down = positions::reflected(h, i + 2 * t) * w;
     add_columns(ph, t, fh, count);
     add_rows(pv, verticals, up, down, fv, count);
-    add_columns(pd, t, fd, count);
-    add_rows(pd, diagonals, up, down, fd, count);
+    add_both(pd, t, diagonals, up, down, fd, count);
 }
 
 // All steps, from 1 to reach.

@@ -1,32 +1,31 @@
--- The invariant of the sweep: what the buffers hold when the stages have made a, b, c, d and e turns. Definitions alone. Assumes nothing.
-use mathlib.Core.Path.{_≡_}
+-- The invariant of the sweep: what the buffers hold when the stages after load have made a, b, c, d and e turns. Definitions alone. Assumes nothing.
 use mathlib.Core.List.{List}
-use Prim.Native.Nat.{ℕ, _*_, _-_, min}
+use Prim.Native.Nat.{ℕ, _-_, min}
 use lib.IntN.{ℤ}
-use lib.ListN.{length}
 use Rattle.frame.specs.Sites.{Frame, Colour}
 use Rattle.method.specs.Green.{vertical, diagonal}
 use Rattle.records.specs.Held.{Held}
-use Rattle.records.specs.Layout.{record-size, final-part, other-part}
+use Rattle.records.specs.Layout.{final-part, other-part}
 use Rattle.records.specs.Quantities.{trials, greens, finals, others, outputs}
 use Rattle.records.specs.Stages.{Gradients, Plane-size}
-use Rattle.stage_turns.specs.Distances.{Buffers, Chroma-held}
+use Rattle.stage_turns.specs.Distances.{Buffers, Chroma-held, Chroma-kept}
 
 -- the planes' rows that out has stored; the numbers of earlier stages stand in the rows that it has not reached
 abbrev pub Shown : Frame → ℕ → Colour → List ℤ → Type 0
 Shown f e c plane = Held (f .width) 0 (λ r. f .width) 0 (min (e - 20) (f .height)) (outputs f c) plane
 
+-- first has made a turns, second b, enhance c, diagonal d and out e; of each part of the records the last 24 rows stand
 pub record Sweep (f : Frame) (a b c d e : ℕ) (tops work red green blue : List ℤ) : Type 0 where
   pub buffers : Buffers f tops work
   pub red-size : Plane-size f red
   pub green-size : Plane-size f green
   pub blue-size : Plane-size f blue
-  pub gradients : Gradients f 0 (min (a - 4) (f .height)) tops work
-  pub diagonals : Chroma-held f (f .width) 0 (min (e - 20) (f .height)) (min (a - 4) (f .height)) (trials f diagonal) red
-  pub verticals : Chroma-held f (f .width) 0 (min (e - 20) (f .height)) (min (a - 4) (f .height)) (trials f vertical) blue
-  pub differences : Chroma-held f (f .width) 0 (min (e - 20) (f .height)) (min (b - 12) (f .height)) (greens f) green
-  pub own : Chroma-held f (record-size (f .width)) (final-part (f .width)) 0 (min (c - 14) (f .height)) (finals f) work
-  pub other : Chroma-held f (record-size (f .width)) (other-part (f .width)) 0 (min (d - 15) (f .height)) (others f) work
+  pub gradients : Gradients f (min (a - 4) (f .height) - 24) (min (a - 4) (f .height)) tops work
+  pub diagonals : Chroma-held f (min (e - 20) (f .height)) (min (a - 4) (f .height)) (trials f diagonal) red
+  pub verticals : Chroma-held f (min (e - 20) (f .height)) (min (a - 4) (f .height)) (trials f vertical) blue
+  pub differences : Chroma-held f (min (e - 20) (f .height)) (min (b - 12) (f .height)) (greens f) green
+  pub own : Chroma-kept f (final-part (f .width)) (min (c - 14) (f .height) - 24) (min (c - 14) (f .height)) (finals f) work
+  pub other : Chroma-kept f (other-part (f .width)) (min (d - 15) (f .height) - 24) (min (d - 15) (f .height)) (others f) work
   pub reds : Shown f e Colour.red red
   pub greens-shown : Shown f e Colour.green green
   pub blues : Shown f e Colour.blue blue

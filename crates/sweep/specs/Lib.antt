@@ -1,3 +1,4 @@
+pub mod Loads
 pub mod Invariant
 pub mod Reads
 pub mod Steps

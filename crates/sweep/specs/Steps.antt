@@ -1,33 +1,34 @@
 -- The step of the sweep: each stage's turn moves its own counter. Assumes nothing.
 use mathlib.Core.Path.{_≡_, refl, _∙_}
 use mathlib.Core.List.{List}
-use Prim.Native.Nat.{ℕ, _+_, _*_, _-_, _/_, _<_, _≤_, min}
+use Prim.Native.Nat.{ℕ, _+_, _-_, _/_, _≤_, min}
 use native.Mathlib.Omega.{arith}
 use lib.IntN.{ℤ}
 use lib.ListN.{length}
-use Rattle.frame.specs.Sites.{Frame, Colour}
-use Rattle.frame.specs.Sites.{frame}
+use Rattle.frame.specs.Sites.{Frame, Colour, frame}
 use Rattle.frame.specs.declared.Shape.{Shape}
 use Rattle.positions.specs.Taken.{Taken}
-use Rattle.positions.specs.HalfRows.{chroma-count, half-count, in-halves}
+use Rattle.positions.specs.Rings.{Round}
+use Rattle.positions.specs.HalfRows.{chroma-start, chroma-count, in-halves}
+use Rattle.positions.specs.HalfRowLaws.{count-half}
 use Rattle.records.specs.Quantities.{norths}
 use Rattle.records.specs.Held.{Held}
 use Rattle.records.specs.Layout.{record-size, gradient-size, final-part, other-part, top-size}
-use Rattle.records.specs.Turns.{Turn}
-use Rattle.records.specs.TurnLaws.{held-none, held-part, turn-size, turn-next, turn-past, turn-beside, turn-behind, turn-over}
-use Rattle.records.specs.Stages.{Gradients, Plane-size}
-use Rattle.stage_turns.specs.Distances.{Buffers, Chroma-turn, First-turned, Second-turned, Enhance-turned, Diagonal-turned, Out-turn}
+use Rattle.records.specs.TurnLaws.{held-none, held-part, turn-size, turn-next, ring-next, turn-past, turn-beside, turn-behind, turn-over}
+use Rattle.records.specs.Stages.{Plane-size}
+use Rattle.stage_turns.specs.Distances.{Buffers, First-turns, First-turned, Second-turned, Enhance-turned, Diagonal-turned, Out-turn, Out-turned}
 use Rattle.sweep.specs.Invariant.{Sweep}
-use Rattle.sweep.specs.Reads.{second-asks, enhance-asks, diagonal-asks}
+use Rattle.sweep.specs.Loads.{Mosaic-kept}
+use Rattle.sweep.specs.Reads.{first-asks, second-asks, enhance-asks, diagonal-asks, out-asks}
 
 -- ---- the parts of a row have their room
 
-count-half : (f : Frame) (r : ℕ) → chroma-count f r ≤ (f .width + 1) / 2
-unfolding chroma-count half-count
-count-half f r = omega arith
+chroma-half : (f : Frame) (r : ℕ) → chroma-count f r ≤ (f .width + 1) / 2
+unfolding chroma-count
+chroma-half f r = count-half (f .width) (chroma-start (f .phase) r)
 
 plane-fit : (f : Frame) → Taken f → (r : ℕ) → 0 + chroma-count f r ≤ f .width
-plane-fit f t r = omega (arith, count-half f r, t .wide)
+plane-fit f t r = omega (arith, chroma-half f r, t .wide)
 
 row-fit : (f : Frame) (r : ℕ) → 0 + f .width ≤ f .width
 row-fit f r = omega arith
@@ -39,13 +40,13 @@ gradient-fit : (f : Frame) → Taken f → (r : ℕ) → 0 + gradient-size (f .w
 gradient-fit f t r = omega (arith, t .wide)
 
 final-fit : (f : Frame) → Taken f → (r : ℕ) → final-part (f .width) + chroma-count f r ≤ record-size (f .width)
-final-fit f t r = omega (arith, count-half f r, t .wide)
+final-fit f t r = omega (arith, chroma-half f r, t .wide)
 
 other-fit : (f : Frame) → Taken f → (r : ℕ) → other-part (f .width) + chroma-count f r ≤ record-size (f .width)
-other-fit f t r = omega (arith, count-half f r, t .wide)
+other-fit f t r = omega (arith, chroma-half f r, t .wide)
 
 final-first : (f : Frame) (r : ℕ) → final-part (f .width) + chroma-count f r ≤ other-part (f .width)
-final-first f r = omega (arith, count-half f r)
+final-first f r = omega (arith, chroma-half f r)
 
 buffers-then : {f : Frame} {tops tops' work work' : List ℤ} → Buffers f tops work → length tops' ≡ length tops → length work' ≡ length work
     → Buffers f tops' work'
@@ -70,9 +71,9 @@ sweep-none b r g l = record {
 }
 
 module _ {f : Frame} {t : ℕ} {tops work red green blue : List ℤ} where
-  pub after-first : {tops' work' red' blue' : List ℤ} → Sweep f t t t t t tops work red green blue
-      → First-turned f t tops tops' work work' red red' blue blue' → Sweep f (t + 1) t t t t tops' work' red' green blue'
-  after-first s w =
+  first-turned : {tops' work' red' blue' : List ℤ} → Sweep f t t t t t tops work red green blue
+      → First-turns f t tops tops' work work' red red' blue blue' → Sweep f (t + 1) t t t t tops' work' red' green blue'
+  first-turned s w =
       let k = s .buffers .taken in
       let tops-before : Held top-size 0 (λ r. f .width) 0 (min (t - 4) 2) (in-halves f (norths f)) tops =
       held-part (s .gradients .top-rows) (omega arith) (omega (arith, k .tall)) in
@@ -82,7 +83,7 @@ module _ {f : Frame} {t : ℕ} {tops work red green blue : List ℤ} where
         green-size = s .green-size;
         blue-size = turn-size (w .blue-turn) ∙ s .blue-size;
         gradients = record {
-          records = turn-next (w .work-turn) (gradient-fit f k) (s .gradients .records);
+          records = ring-next (w .work-turn) (gradient-fit f k) (s .gradients .records);
           top-rows = held-part tops-after (omega arith) (omega arith);
         };
         diagonals = turn-next (w .red-turn) (plane-fit f k) (s .diagonals);
@@ -96,6 +97,12 @@ module _ {f : Frame} {t : ℕ} {tops work red green blue : List ℤ} where
       }
 
 module _ {shape : Shape} {zs : List ℕ} {t : ℕ} {tops work red green blue : List ℤ} where
+  pub after-first : {base : ℕ} {rows alongs : List ℕ} {tops' work' red' blue' : List ℤ} → Round base (t - 24) t
+      → Mosaic-kept (frame shape zs) (t + 1) rows alongs → Sweep (frame shape zs) t t t t t tops work red green blue
+      → First-turned shape t base rows alongs tops tops' work work' red red' blue blue'
+      → Sweep (frame shape zs) (t + 1) t t t t tops' work' red' green blue'
+  after-first r m s p = first-turned s (p .turn zs (first-asks r m s))
+
   pub after-second : {green' : List ℤ} → Sweep (frame shape zs) (t + 1) t t t t tops work red green blue → Second-turned shape t red blue green green'
       → Sweep (frame shape zs) (t + 1) (t + 1) t t t tops work red green' blue
   after-second s p =
@@ -116,11 +123,11 @@ module _ {shape : Shape} {zs : List ℕ} {t : ℕ} {tops work red green blue : L
         blues = s .blues;
       }
 
-  pub after-enhance : {work' : List ℤ} → Sweep (frame shape zs) (t + 1) (t + 1) t t t tops work red green blue
-      → Enhance-turned shape t tops green work work' → Sweep (frame shape zs) (t + 1) (t + 1) (t + 1) t t tops work' red green blue
-  after-enhance s p =
+  pub after-enhance : {base : ℕ} {work' : List ℤ} → Round base (t - 24) t → Sweep (frame shape zs) (t + 1) (t + 1) t t t tops work red green blue
+      → Enhance-turned shape t base tops green work work' → Sweep (frame shape zs) (t + 1) (t + 1) (t + 1) t t tops work' red green blue
+  after-enhance r s p =
       let k = s .buffers .taken in
-      let w = p .turn zs (enhance-asks s) in record {
+      let w = p .turn zs (enhance-asks r s) in record {
         buffers = buffers-then (s .buffers) refl (turn-size w);
         red-size = s .red-size;
         green-size = s .green-size;
@@ -132,18 +139,19 @@ module _ {shape : Shape} {zs : List ℕ} {t : ℕ} {tops work red green blue : L
         diagonals = s .diagonals;
         verticals = s .verticals;
         differences = s .differences;
-        own = turn-next w (final-fit (frame shape zs) k) (s .own);
+        own = ring-next w (final-fit (frame shape zs) k) (s .own);
         other = turn-behind w (final-fit (frame shape zs) k) (other-fit (frame shape zs) k) (final-first (frame shape zs)) (s .other);
         reds = s .reds;
         greens-shown = s .greens-shown;
         blues = s .blues;
       }
 
-  pub after-diagonal : {work' : List ℤ} → Sweep (frame shape zs) (t + 1) (t + 1) (t + 1) t t tops work red green blue
-      → Diagonal-turned shape t tops work work' → Sweep (frame shape zs) (t + 1) (t + 1) (t + 1) (t + 1) t tops work' red green blue
-  after-diagonal s p =
+  pub after-diagonal : {base : ℕ} {work' : List ℤ} → Round base (t - 24) t
+      → Sweep (frame shape zs) (t + 1) (t + 1) (t + 1) t t tops work red green blue
+      → Diagonal-turned shape t base tops work work' → Sweep (frame shape zs) (t + 1) (t + 1) (t + 1) (t + 1) t tops work' red green blue
+  after-diagonal r s p =
       let k = s .buffers .taken in
-      let w = p .turn zs (diagonal-asks s) in record {
+      let w = p .turn zs (diagonal-asks r s) in record {
         buffers = buffers-then (s .buffers) refl (turn-size w);
         red-size = s .red-size;
         green-size = s .green-size;
@@ -156,7 +164,7 @@ module _ {shape : Shape} {zs : List ℕ} {t : ℕ} {tops work red green blue : L
         verticals = s .verticals;
         differences = s .differences;
         own = turn-beside w (other-fit (frame shape zs) k) (final-fit (frame shape zs) k) (final-first (frame shape zs)) (s .own);
-        other = turn-next w (other-fit (frame shape zs) k) (s .other);
+        other = ring-next w (other-fit (frame shape zs) k) (s .other);
         reds = s .reds;
         greens-shown = s .greens-shown;
         blues = s .blues;
@@ -183,11 +191,16 @@ module _ {f : Frame} {t : ℕ} {tops work red green blue red' green' blue' : Lis
         blues = turn-next b (row-fit f) (s .blues);
       }
 
--- all five turns
-pub step-made : {shape : Shape} {zs : List ℕ} {t : ℕ} {tops work red green blue tops' work₁ red₁ blue₁ green₁ work₂ work₃ red' green' blue' : List ℤ}
-    → Sweep (frame shape zs) t t t t t tops work red green blue → First-turned (frame shape zs) t tops tops' work work₁ red red₁ blue blue₁
-    → Second-turned shape t red₁ blue₁ green green₁ → Enhance-turned shape t tops' green₁ work₁ work₂ → Diagonal-turned shape t tops' work₂ work₃
-    → Out-turn (frame shape zs) t Colour.red red₁ red' → Out-turn (frame shape zs) t Colour.green green₁ green'
-    → Out-turn (frame shape zs) t Colour.blue blue₁ blue'
+-- all turns
+pub step-made : {shape : Shape} {zs : List ℕ} {t base : ℕ} {rows alongs : List ℕ}
+    {tops work red green blue tops' work₁ red₁ blue₁ green₁ work₂ work₃ red' green' blue' : List ℤ} → Round base (t - 24) t
+    → Mosaic-kept (frame shape zs) (t + 1) rows alongs → Sweep (frame shape zs) t t t t t tops work red green blue
+    → First-turned shape t base rows alongs tops tops' work work₁ red red₁ blue blue₁ → Second-turned shape t red₁ blue₁ green green₁
+    → Enhance-turned shape t base tops' green₁ work₁ work₂ → Diagonal-turned shape t base tops' work₂ work₃
+    → Out-turned shape t base Colour.red rows tops' work₃ red₁ red' → Out-turned shape t base Colour.green rows tops' work₃ green₁ green'
+    → Out-turned shape t base Colour.blue rows tops' work₃ blue₁ blue'
     → Sweep (frame shape zs) (t + 1) (t + 1) (t + 1) (t + 1) (t + 1) tops' work₃ red' green' blue'
-step-made s a b c d r g l = after-out (after-diagonal (after-enhance (after-second (after-first s a) b) c) d) r g l
+step-made {zs = zs} o m s a b c d r g l =
+    let last = after-diagonal o (after-enhance o (after-second (after-first o m s a) b) c) d in
+    let asks = out-asks o m last in
+    after-out last (r .turn zs asks) (g .turn zs asks) (l .turn zs asks)

@@ -1,12 +1,14 @@
 // The sweep over the rows: a step is a turn of each stage.
 use frame::Shape;
 ghost use mathlib.Core.Path.{_≡_};
-ghost use Prim.Native.Nat.{_+_, _*_};
+ghost use Prim.Native.Nat.{_+_, _*_, _-_};
 ghost use lib.ListN.{length};
 ghost use Rattle.frame.specs.Sites.{Colour, frame};
 ghost use Rattle.method.specs.Planes.{plane};
 ghost use Rattle.positions.specs.Taken.{Taken};
+ghost use Rattle.positions.specs.Rings.{Round};
 ghost use Rattle.stage_turns.specs.Scratch.{Row-arrays, Half-arrays};
+ghost use Rattle.sweep.specs.Loads.{Mosaic-kept};
 ghost use Rattle.sweep.specs.Invariant.{Sweep};
 
 // One step: a turn of each stage.
@@ -14,9 +16,11 @@ fn step(
     mosaic: &[u16],
     shape: Shape,
     t: usize,
-    rows: &mut [u16; 32896],
-    alongs: &mut [u16; 32896],
+    base: usize,
+    rows: &mut [u16; 98688],
+    alongs: &mut [u16; 98688],
     v: &mut [u16; 4112],
+    gradients: &mut [i32; 4112],
     n: &mut [i32; 2064],
     a: &mut [i32; 2064],
     b: &mut [i32; 2064],
@@ -33,17 +37,24 @@ fn step(
     blue: &mut [i32],
 )
     requires { ⌜ Sweep (frame shape (now mosaic)) t t t t t (now tops) (now work) (now red) (now green) (now blue) ⌝ }
-    requires { ⌜ (Row-arrays (now rows) (now alongs) (now v)) × (Half-arrays (now n) (now a) (now b) (now d) (now e) (now f) (now g) (now l) (now m)) ⌝ }
-    ensures { λ _. ⌜ Sweep (frame shape (now (mosaic .entry))) (t + 1) (t + 1) (t + 1) (t + 1) (t + 1) (now (tops .exit)) (now (work .exit)) (now (red .exit)) (now (green .exit)) (now (blue .exit)) ⌝ }
-    ensures { λ _. ⌜ (Row-arrays (now (rows .exit)) (now (alongs .exit)) (now (v .exit))) × (Half-arrays (now (n .exit)) (now (a .exit)) (now (b .exit)) (now (d .exit)) (now (e .exit)) (now (f .exit)) (now (g .exit)) (now (l .exit)) (now (m .exit))) ⌝ }
+    requires { ⌜ (Mosaic-kept (frame shape (now mosaic)) t (now rows) (now alongs)) × (Row-arrays (now v) (now gradients))
+        × (Half-arrays (now n) (now a) (now b) (now d) (now e) (now f) (now g) (now l) (now m)) × (Round base (t - 24) t) ⌝ }
+    ensures { λ _. ⌜ Sweep (frame shape (now (mosaic .entry))) (t + 1) (t + 1) (t + 1) (t + 1) (t + 1) (now (tops .exit)) (now (work .exit))
+        (now (red .exit)) (now (green .exit)) (now (blue .exit)) ⌝ }
+    ensures { λ _. ⌜ (Mosaic-kept (frame shape (now (mosaic .entry))) (t + 1) (now (rows .exit)) (now (alongs .exit)))
+        × (Row-arrays (now (v .exit)) (now (gradients .exit)))
+        × (Half-arrays (now (n .exit)) (now (a .exit)) (now (b .exit)) (now (d .exit))
+        (now (e .exit)) (now (f .exit)) (now (g .exit)) (now (l .exit)) (now (m .exit))) ⌝ }
 {
+    stage_turns::load_turn(mosaic, shape, t, base, rows, alongs);
     stage_turns::first_turn(
-        mosaic,
-        shape,
-        t,
         rows,
         alongs,
+        shape,
+        t,
+        base,
         v,
+        gradients,
         n,
         a,
         b,
@@ -53,15 +64,15 @@ fn step(
         blue,
     );
     stage_turns::second_turn(red, blue, shape, t, a, b, d, e, f, g, green);
-    stage_turns::enhance_turn(tops, shape, work, green, t, n, a, b);
-    stage_turns::diagonal_turn(tops, shape, work, t, n, a, b, d);
+    stage_turns::enhance_turn(tops, shape, work, green, t, base, n, a, b);
+    stage_turns::diagonal_turn(tops, shape, work, t, base, n, a, b, d);
     stage_turns::out_turn(
-        mosaic,
         rows,
         tops,
         shape,
         work,
         t,
+        base,
         n,
         a,
         b,
@@ -77,13 +88,14 @@ fn step(
     );
 }
 
-// All steps.
+// All steps, with base, a row at place 0 of the rings.
 fn steps(
     mosaic: &[u16],
     shape: Shape,
-    rows: &mut [u16; 32896],
-    alongs: &mut [u16; 32896],
+    rows: &mut [u16; 98688],
+    alongs: &mut [u16; 98688],
     v: &mut [u16; 4112],
+    gradients: &mut [i32; 4112],
     n: &mut [i32; 2064],
     a: &mut [i32; 2064],
     b: &mut [i32; 2064],
@@ -100,19 +112,25 @@ fn steps(
     blue: &mut [i32],
 )
     requires { ⌜ Sweep (frame shape (now mosaic)) 0 0 0 0 0 (now tops) (now work) (now red) (now green) (now blue) ⌝ }
-    requires { ⌜ (Row-arrays (now rows) (now alongs) (now v)) × (Half-arrays (now n) (now a) (now b) (now d) (now e) (now f) (now g) (now l) (now m)) ⌝ }
-    ensures { λ _. ⌜ (now (red .exit) ≡ plane (frame shape (now (mosaic .entry))) Colour.red) × (now (green .exit) ≡ plane (frame shape (now (mosaic .entry))) Colour.green) × (now (blue .exit) ≡ plane (frame shape (now (mosaic .entry))) Colour.blue) ⌝ }
+    requires { ⌜ (Mosaic-kept (frame shape (now mosaic)) 0 (now rows) (now alongs)) × (Row-arrays (now v) (now gradients))
+        × (Half-arrays (now n) (now a) (now b) (now d) (now e) (now f) (now g) (now l) (now m)) ⌝ }
+    ensures { λ _. ⌜ (now (red .exit) ≡ plane (frame shape (now (mosaic .entry))) Colour.red)
+        × (now (green .exit) ≡ plane (frame shape (now (mosaic .entry))) Colour.green)
+        × (now (blue .exit) ≡ plane (frame shape (now (mosaic .entry))) Colour.blue) ⌝ }
 {
     let h = shape.height;
     let mut t = 0;
+    let mut base = 0;
     while t < h + 20 {
         step(
             mosaic,
             shape,
             t,
+            base,
             rows,
             alongs,
             v,
+            gradients,
             n,
             a,
             b,
@@ -128,11 +146,13 @@ fn steps(
             green,
             blue,
         );
+        base = positions::next_base(t, base);
         t += 1;
     }
 }
 
-// The planes of a frame; its local rows are made once.
+// The planes of a frame. The local rows are made once; v, gradients and the nine half rows n to m are filled anew by each stage
+// (stage_turns, Scratch).
 pub fn sweep(
     mosaic: &[u16],
     shape: Shape,
@@ -142,12 +162,16 @@ pub fn sweep(
     work: &mut [i32],
 )
     requires { ⌜ Taken (frame shape (now mosaic)) ⌝ }
-    requires { ⌜ (length (now red) ≡ shape .height * shape .width) × (length (now green) ≡ shape .height * shape .width) × (length (now blue) ≡ shape .height * shape .width) × (length (now work) ≡ shape .height * (4 * shape .width)) ⌝ }
-    ensures { λ _. ⌜ (now (red .exit) ≡ plane (frame shape (now (mosaic .entry))) Colour.red) × (now (green .exit) ≡ plane (frame shape (now (mosaic .entry))) Colour.green) × (now (blue .exit) ≡ plane (frame shape (now (mosaic .entry))) Colour.blue) ⌝ }
+    requires { ⌜ (length (now red) ≡ shape .height * shape .width) × (length (now green) ≡ shape .height * shape .width)
+        × (length (now blue) ≡ shape .height * shape .width) × (length (now work) ≡ shape .height * (4 * shape .width)) ⌝ }
+    ensures { λ _. ⌜ (now (red .exit) ≡ plane (frame shape (now (mosaic .entry))) Colour.red)
+        × (now (green .exit) ≡ plane (frame shape (now (mosaic .entry))) Colour.green)
+        × (now (blue .exit) ≡ plane (frame shape (now (mosaic .entry))) Colour.blue) ⌝ }
 {
-    let mut rows = [0u16; 32896];
-    let mut alongs = [0u16; 32896];
+    let mut rows = [0u16; 98688];
+    let mut alongs = [0u16; 98688];
     let mut v = [0u16; 4112];
+    let mut gradients = [0i32; 4112];
     let mut n = [0i32; 2064];
     let mut a = [0i32; 2064];
     let mut b = [0i32; 2064];
@@ -164,6 +188,7 @@ pub fn sweep(
         &mut rows,
         &mut alongs,
         &mut v,
+        &mut gradients,
         &mut n,
         &mut a,
         &mut b,

@@ -1,6 +1,7 @@
 -- `differences::diagonal_line` meets its contract. What is formed of row i is a `Diagonal-row` of any frame whose rows these are. Assumes nothing.
 use native.Mathlib.Omega.{arith}
-use Rattle.half_rows.specs.SiteGradients.{north-room, work-most}
+use Rattle.positions.specs.Near.{near-north, near-south}
+use Rattle.half_rows.specs.SiteGradients.{near-record, own-record, north-room, work-most}
 use Rattle.differences.specs.GradientRow.{sites-few, sites-inside, other-room, gradients-fit}
 use Rattle.differences.specs.DiagonalRow.{rest-few, rest-room, row-one-off, diagonal-row, corner-values-fit, others-stored}
 use borrow.Author.Needs.{needs}
@@ -27,7 +28,13 @@ north-requires c κs =
     let lent = start .pre .0 .holds .lent in
     let first = count .before .first-chroma .ensures .0 in
     let sites = count .half-count .ensures .0 in
-    north-room _ _ 0 _ _ _ _ lent (sites-inside lent first sites) (sites-few lent first sites) (start .pre .1 .0)
+    north-room _ _ _ 0 _ _ _ _ lent (sites-inside lent first sites) (sites-few lent first sites) (start .pre .1 .0)
+
+final-at-requires : tie.Need-final-at-requires
+final-at-requires c κs =
+    let lent = c .before .before .before .before .before .before .before .pre .0 .holds .lent in
+    let near = near-north _ _ 1 (lent .taken .tall) (lent .inside) in
+    near-record lent _ (omega (arith, c .reflected-less .ensures)) (omega (arith, c .reflected-less .ensures)) (c .reflected-less .ensures .1)
 
 sub-copy : tie.Need-sub-copy
 sub-copy c =
@@ -43,10 +50,16 @@ copy-requires c κs =
     let first = count .before .first-chroma .ensures .0 in
     let sites = count .half-count .ensures .0 in (
       rest-room lent first sites _ (place .before .reflected-less .ensures .1) (place .final-at .ensures),
-      work-most _ _ _ _ lent,
+      work-most _ _ _ _ _ lent,
       rest-few lent first sites,
       start .pre .1 .1,
     )
+
+final-at-requires-2 : tie.Need-final-at-requires-2
+final-at-requires-2 c κs =
+    let lent = counted (c .before .before .before .before) .before .before .pre .0 .holds .lent in
+    let near = near-south _ _ 1 (lent .taken .tall) (lent .inside) in
+    near-record lent _ (omega (arith, c .reflected .ensures)) (omega (arith, c .reflected .ensures)) (c .reflected .ensures .1)
 
 sub-copy-2 : tie.Need-sub-copy-2
 sub-copy-2 c =
@@ -62,7 +75,7 @@ copy-requires-2 c κs =
     let first = count .before .first-chroma .ensures .0 in
     let sites = count .half-count .ensures .0 in (
       rest-room lent first sites _ (place .before .reflected .ensures .1) (place .final-at2 .ensures),
-      work-most _ _ _ _ lent,
+      work-most _ _ _ _ _ lent,
       rest-few lent first sites,
       start .pre .1 .2,
     )
@@ -82,12 +95,12 @@ mirror-requires-2 c κs =
 record-at-requires : tie.Need-record-at-requires
 record-at-requires c κs =
     let lent = counted (upper (lower (c .before))) .before .before .pre .0 .holds .lent in
-    (lent .taken .narrow, omega (arith, lent .inside, lent .taken .low))
+    own-record lent
 
 south-at-requires : tie.Need-south-at-requires
 south-at-requires c κs =
     let lent = counted (upper (lower (c .before .before))) .before .before .pre .0 .holds .lent in
-    (lent .taken .narrow, omega (arith, lent .inside, lent .taken .low))
+    own-record lent
 
 corner-means-requires : tie.Need-corner-means-requires
 corner-means-requires c κs =
@@ -112,7 +125,7 @@ corner-means-requires c κs =
 other-at-requires : tie.Need-other-at-requires
 other-at-requires c κs =
     let lent = counted (upper (lower (mirrored (c .before .before)))) .before .before .pre .0 .holds .lent in
-    (lent .taken .narrow, omega (arith, lent .inside, lent .taken .low))
+    own-record lent
 
 store-requires : tie.Need-store-requires
 store-requires c κs =
@@ -120,7 +133,7 @@ store-requires c κs =
     let lent = count .before .before .pre .0 .holds .lent in
     let first = count .before .first-chroma .ensures .0 in
     let sites = count .half-count .ensures .0 in
-    (sites-few lent first sites, other-room lent first sites (c .other-at .ensures), work-most _ _ _ _ lent)
+    (sites-few lent first sites, other-room lent first sites (c .other-at .ensures), work-most _ _ _ _ _ lent)
 
 returns : tie.Need-returns
 returns c =
@@ -153,12 +166,12 @@ diagonal-line-spec = tie.close (tie.spec
     (λ c κs. search needs)
     north-requires
     (λ c κs. search needs)
-    (λ c κs. search needs)
+    final-at-requires
     sub-copy
     copy-requires
     (λ c. search needs)
     (λ c κs. search needs)
-    (λ c κs. search needs)
+    final-at-requires-2
     sub-copy-2
     copy-requires-2
     (λ c. search needs)

@@ -1,7 +1,7 @@
 -- `differences::enhance_line` meets its contract. What is formed of row i is an `Enhance-row` of any frame whose rows these are. Assumes nothing.
 use native.Mathlib.Omega.{arith}
 use Rattle.positions.specs.Places.{plane-row}
-use Rattle.half_rows.specs.SiteGradients.{north-room, work-most}
+use Rattle.half_rows.specs.SiteGradients.{own-record, north-room, work-most}
 use Rattle.differences.specs.GradientRow.{sites-few, sites-inside, final-room, gradients-fit}
 use Rattle.differences.specs.EnhanceRow.{enhance-row, row-room, green-most, values-fit, differences-fit, means-fit, finals-stored}
 use borrow.Author.Needs.{needs}
@@ -38,7 +38,7 @@ north-requires c κs =
     let lent = start .pre .0 .holds .lent in
     let first = count .before .first-chroma .ensures .0 in
     let sites = count .half-count .ensures .0 in
-    north-room _ _ 0 _ _ _ _ lent (sites-inside lent first sites) (sites-few lent first sites) (start .pre .1 .0)
+    north-room _ _ _ 0 _ _ _ _ lent (sites-inside lent first sites) (sites-few lent first sites) (start .pre .1 .0)
 
 mul-copy : tie.Need-mul-copy
 mul-copy c =
@@ -54,10 +54,13 @@ copy-requires c κs =
     let sites = count .half-count .ensures .0 in
     (row-room reads first sites _ (reads .lent .inside), green-most reads first sites, sites-few (reads .lent) first sites, start .pre .1 .1)
 
+record-at-requires : tie.Need-record-at-requires
+record-at-requires c κs = own-record (counted (placed (formed (c .before))) .before .before .pre .0 .holds .lent)
+
 south-at-requires : tie.Need-south-at-requires
 south-at-requires c κs =
     let lent = counted (placed (formed (c .before .before))) .before .before .pre .0 .holds .lent in
-    (lent .taken .narrow, omega (arith, lent .inside, lent .taken .low))
+    own-record lent
 
 straight-means-requires : tie.Need-straight-means-requires
 straight-means-requires c κs =
@@ -80,7 +83,7 @@ straight-means-requires c κs =
 final-at-requires : tie.Need-final-at-requires
 final-at-requires c κs =
     let lent = counted (placed (formed (mirrored (c .before .before .before)))) .before .before .pre .0 .holds .lent in
-    (lent .taken .narrow, omega (arith, lent .inside, lent .taken .low))
+    own-record lent
 
 fuse-row-requires : tie.Need-fuse-row-requires
 fuse-row-requires c κs =
@@ -94,7 +97,7 @@ fuse-row-requires c κs =
     let sites = count .half-count .ensures .0 in
     let row = enhance-row reads first sites (place .before .reflected .ensures .0) (place .reflected-less .ensures .0)
     (formed mirror .north .ensures) (mirror .before .before .copy .ensures) (mirror .mirror .ensures) in (
-      (sites-few (reads .lent) first sites, final-room (reads .lent) first sites (c .final-at .ensures), work-most _ _ _ _ (reads .lent)),
+      (sites-few (reads .lent) first sites, final-room (reads .lent) first sites (c .final-at .ensures), work-most _ _ _ _ _ (reads .lent)),
       (
         differences-fit row,
         means-fit row _ _ (records .before .record-at .ensures .0) (records .south-at .ensures) _ (means .straight-means .ensures),
@@ -131,7 +134,7 @@ enhance-line-spec = tie.close (tie.spec
     mul-copy
     copy-requires
     (λ c κs. search needs)
-    (λ c κs. search needs)
+    record-at-requires
     south-at-requires
     straight-means-requires
     final-at-requires

@@ -1,40 +1,31 @@
--- `east_rows::east_line` meets its contract. a of three rows, then both halves as one store (`east-stored`). Assumes nothing.
-use mathlib.Core.Path.{_≡_, _∙_}
-use lib.Dec.{lit≤, lit<}
-use lib.ListN.{length}
+-- `east_rows::east_line` meets its contract. E of the row, then both halves as one store (`east-stored`). Assumes nothing.
+use mathlib.Core.Path.{_∙_}
+use native.Mathlib.Omega.{arith}
 use Rattle.frame.specs.Sites.{Frame, frame}
 use Rattle.east_rows.specs.EastRows.{East-reads}
-use Rattle.east_rows.specs.EastLaws.{Alongs, row-small, three-alongs}
-use Rattle.east_rows.specs.LineLaws.{first-among, second-among, east-room, count-in-row, halves-room, east-stored}
+use Rattle.east_rows.specs.LineLaws.{first-end, second-end, east-room, count-in-row, halves-room, east-stored}
 use borrow.Author.Needs.{needs}
 use Rattle.east_rows.proofs.east_line.Statement.{statement}
 use Rattle.east_rows.proofs.east_line.Tie as tie
 
--- the frame, and the rows that the line reads
-module _ (c : tie.Start) where
-  abbrev framed : Frame
-  framed = frame (c .args .shape) (c .pre .0 .samples)
-
-  reads : East-reads framed (c .args .i) (c .args .rows .now)
-  reads = c .pre .0 .holds
-
--- a of three rows is formed
-module _ (c : tie.After-along-row3) where
-  abbrev placed : tie.After-record-at
-  placed = c .before .before .before .before .before .before
-
+-- the frame, and what the line reads
+module _ (c : tie.After-record-at) where
   abbrev start : tie.Start
-  start = placed .before .before .before
+  start = c .before .before .before
 
-  sums : Alongs (start .args .shape .width) (start .args .rows .now) (c .along-row3 .last .1 .1 .1 .0)
-  sums =
-      three-alongs (reads start .taken .narrow) (c .before .before .before .before .along-row .ensures) (c .before .before .along-row2 .ensures)
-      (c .along-row3 .ensures)
+  abbrev framed : Frame
+  framed = frame (start .args .shape) (start .pre .0 .samples)
 
-  alongs-length : length (c .along-row3 .last .1 .1 .1 .0) ≡ 32896
-  alongs-length =
-      c .along-row3 .ensures .size
-      ∙ (c .before .before .along-row2 .ensures .size ∙ (c .before .before .before .before .along-row .ensures .size ∙ start .pre .1 .0))
+  reads : East-reads framed (start .args .i) (start .args .t3) (start .args .rows .now) (start .args .alongs .now)
+  reads = start .pre .0 .holds
+
+-- where the first half is stored, the record's place is known
+abbrev placed-of : tie.After-take-half-arg2 → tie.After-record-at
+placed-of c = c .before .before .before .before
+
+-- where the second half is stored, the first was
+abbrev first-of : tie.After-take-half-arg4 → tie.After-take-half-arg2
+first-of c = c .before .before .before .before
 
 first-chroma-requires : tie.Need-first-chroma-requires
 first-chroma-requires c κs = search needs
@@ -45,66 +36,60 @@ half-count-requires c κs = search needs
 record-at-requires : tie.Need-record-at-requires
 record-at-requires c κs = search needs
 
-along-row-requires : tie.Need-along-row-requires
-along-row-requires c κs =
-    let start = c .before .before .before .before in
-    ((reads start .taken .narrow, lit≤ tt, start .pre .1 .0), row-small (framed start) _ _ (reads start) 1 (lit< tt))
+array-read-east-row : tie.Need-array-read-east-row
+array-read-east-row c = search needs
 
-along-row-requires-2 : tie.Need-along-row-requires-2
-along-row-requires-2 c κs =
-    let start = c .before .before .before .before .before .before in
-    let size = c .before .along-row .ensures .size ∙ start .pre .1 .0 in
-    ((reads start .taken .narrow, lit≤ tt, size), row-small (framed start) _ _ (reads start) 2 (lit< tt))
+array-read-east-row-2 : tie.Need-array-read-east-row-2
+array-read-east-row-2 c = search needs
 
-along-row-requires-3 : tie.Need-along-row-requires-3
-along-row-requires-3 c κs =
-    let start = c .before .before .before .before .before .before .before .before in
-    let size = c .before .along-row2 .ensures .size ∙ (c .before .before .before .along-row .ensures .size ∙ start .pre .1 .0) in
-    ((reads start .taken .narrow, lit≤ tt, size), row-small (framed start) _ _ (reads start) 3 (lit< tt))
+array-read-east-row-3 : tie.Need-array-read-east-row-3
+array-read-east-row-3 c = search needs
 
-add-east-half : tie.Need-add-east-half
-add-east-half c = search needs
+east-row-requires : tie.Need-east-row-requires
+east-row-requires c κs =
+    let placed = c .before in
+    (east-room (framed placed) _ _ _ _ (reads placed), start placed .pre .1 .0)
 
-add-east-half-2 : tie.Need-add-east-half-2
-add-east-half-2 c = search needs
+add-take-half : tie.Need-add-take-half
+add-take-half c = search needs
 
-east-half-requires : tie.Need-east-half-requires
-east-half-requires c κs =
-    let formed = c .before .before in
-    let count = placed formed .before .half-count .ensures .0 in
-    let chroma = placed formed .before .before .first-chroma .ensures in
-    let row = reads (start formed) in (
-      east-room (framed (start formed)) _ _ _ row (sums formed) _ _ (first-among _ _ _ (chroma .1) count),
-      halves-room (framed (start formed)) _ _ _ _ _ (row .taken .wide) (row .inside) count (placed formed .record-at .ensures .0)
-          (start formed .pre .1 .1) .0,
+add-take-half-2 : tie.Need-add-take-half-2
+add-take-half-2 c = search needs
+
+take-half-requires : tie.Need-take-half-requires
+take-half-requires c κs =
+    let placed = placed-of c in
+    let count = placed .before .half-count .ensures .0 in
+    let row = reads placed in (
+      omega (arith, row .taken .narrow, first-end _ _ _ (placed .before .before .first-chroma .ensures .1) count),
+      halves-room (framed placed) _ _ _ _ _ (row .taken .wide) (row .inside) count (placed .record-at .ensures .0) (start placed .pre .1 .1) .0,
     )
 
-sub-east-half : tie.Need-sub-east-half
-sub-east-half c = search needs
+sub-take-half : tie.Need-sub-take-half
+sub-take-half c = search needs
 
-sub-east-half-2 : tie.Need-sub-east-half-2
-sub-east-half-2 c =
-    let formed = c .before .before .before .before .before in
-    count-in-row (framed (start formed)) _ _ (placed formed .before .half-count .ensures .0)
+sub-take-half-2 : tie.Need-sub-take-half-2
+sub-take-half-2 c =
+    let placed = placed-of (c .before .before .before) in
+    count-in-row (framed placed) _ _ (placed .before .half-count .ensures .0)
 
-add-east-half-3 : tie.Need-add-east-half-3
-add-east-half-3 c = search needs
+add-take-half-3 : tie.Need-add-take-half-3
+add-take-half-3 c = omega (arith, reads (placed-of (c .before .before .before)) .taken .narrow)
 
-add-east-half-4 : tie.Need-add-east-half-4
-add-east-half-4 c = search needs
+add-take-half-4 : tie.Need-add-take-half-4
+add-take-half-4 c = search needs
 
-add-east-half-5 : tie.Need-add-east-half-5
-add-east-half-5 c = search needs
+add-take-half-5 : tie.Need-add-take-half-5
+add-take-half-5 c = search needs
 
-east-half-requires-2 : tie.Need-east-half-requires-2
-east-half-requires-2 c κs =
-    let formed = c .before .before .before .before .before .before in
-    let count = placed formed .before .half-count .ensures .0 in
-    let chroma = placed formed .before .before .first-chroma .ensures in
-    let row = reads (start formed) in (
-      east-room (framed (start formed)) _ _ _ row (sums formed) _ _ (second-among _ _ _ (chroma .1) count),
-      halves-room (framed (start formed)) _ _ _ _ _ (row .taken .wide) (row .inside) count (placed formed .record-at .ensures .0)
-          (c .before .before .before .east-half .ensures .size ∙ start formed .pre .1 .1) .1,
+take-half-requires-2 : tie.Need-take-half-requires-2
+take-half-requires-2 c κs =
+    let placed = placed-of (first-of c) in
+    let count = placed .before .half-count .ensures .0 in
+    let row = reads placed in (
+      omega (arith, row .taken .narrow, second-end _ _ _ (placed .before .before .first-chroma .ensures .1) count),
+      halves-room (framed placed) _ _ _ _ _ (row .taken .wide) (row .inside) count (placed .record-at .ensures .0)
+          (c .before .before .before .take-half .ensures .size ∙ start placed .pre .1 .1) .1,
     )
 
 same-length : tie.Need-same-length
@@ -112,15 +97,15 @@ same-length c = search needs
 
 returns : tie.Need-returns
 returns c =
-    let formed = c .before .before .before .before .before .before .before .before in
-    let shape = start formed .args .shape in
-    let count = placed formed .before .half-count .ensures .0 in
-    let chroma = placed formed .before .before .first-chroma .ensures in (
+    let first = first-of (c .before .before) in
+    let formed = first .before .before in
+    let placed = placed-of first in (
       record {
-        row = λ zs row. east-stored (frame shape zs) _ _ _ row (sums formed) _ _ _ (chroma .0) count (placed formed .record-at .ensures .0)
-            (c .before .before .before .before .before .east-half .ensures) (c .before .east-half2 .ensures);
+        row = λ zs row. east-stored (frame (start placed .args .shape) zs) _ _ _ _ row _ _ _ (placed .before .before .first-chroma .ensures .0)
+            (placed .before .half-count .ensures .0) (placed .record-at .ensures .0) _ (formed .east-row .ensures)
+            (c .before .before .before .before .before .take-half .ensures) (c .before .take-half2 .ensures);
       },
-      alongs-length formed,
+      formed .east-row .ensures .size,
     )
 
 pub east-line-spec : {M : Type 1} → statement M
@@ -130,17 +115,18 @@ east-line-spec =
     first-chroma-requires
     half-count-requires
     record-at-requires
-    along-row-requires
-    along-row-requires-2
-    along-row-requires-3
-    add-east-half
-    add-east-half-2
-    east-half-requires
-    sub-east-half
-    sub-east-half-2
-    add-east-half-3
-    add-east-half-4
-    add-east-half-5
-    east-half-requires-2
+    array-read-east-row
+    array-read-east-row-2
+    array-read-east-row-3
+    east-row-requires
+    add-take-half
+    add-take-half-2
+    take-half-requires
+    sub-take-half
+    sub-take-half-2
+    add-take-half-3
+    add-take-half-4
+    add-take-half-5
+    take-half-requires-2
     same-length
     returns)

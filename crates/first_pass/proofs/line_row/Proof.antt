@@ -1,5 +1,6 @@
--- `first_pass::line_row` meets its contract. The loop has filled the entries below k + 4 of both half rows. Assumes nothing.
-use mathlib.Core.Path.{_≡_, refl, _∙_, ap}
+-- `first_pass::line_row` meets its contract. The loop has filled the entries below k + 4 of both half rows; the rows lie inside. Assumes nothing.
+use mathlib.Core.Path.{_≡_, refl}
+use mathlib.Core.List.{[], _∷_}
 use Prim.Native.Nat.{ℕ, _+_, _*_, _-_, _≤_}
 use lib.IntN.{pos}
 use native.Mathlib.Omega.{arith}
@@ -11,15 +12,38 @@ use Rattle.first_pass.proofs.line_row.Statement.{statement}
 use Rattle.first_pass.proofs.line_row.Tie as tie
 
 abbrev Inv-loop : tie.InvT-loop
-Inv-loop rows c a₀ b₀ count k₀ a b k =
-    (k ≤ count) × Entries (pos 0) 2064 4 (k + 4) (λ (x : ℕ). across-difference rows (c + 2 * (x - 4) + 8)) a
-    × Entries (pos 0) 2064 4 (k + 4) (λ (x : ℕ). down-difference rows (c + 2 * (x - 4) + 8)) b
+Inv-loop rows c a₀ b₀ count two-up up own down two-down k₀ a b k =
+    (k ≤ count)
+    × Entries (pos 0) 2064 4 (k + 4) (λ (x : ℕ). across-difference (two-up ∷ up ∷ own ∷ down ∷ two-down ∷ []) rows (c + 2 * (x - 4) + 8)) a
+    × Entries (pos 0) 2064 4 (k + 4) (λ (x : ℕ). down-difference (two-up ∷ up ∷ own ∷ down ∷ two-down ∷ []) rows (c + 2 * (x - 4) + 8)) b
+    × ((two-up + 4112 ≤ 98688) × (up + 4112 ≤ 98688) × (own + 4112 ≤ 98688) × (down + 4112 ≤ 98688) × (two-down + 4112 ≤ 98688))
 
 abbrev μ-loop : tie.MeasureT-loop
-μ-loop rows c a₀ b₀ count k₀ a b k = count - k
+μ-loop rows c a₀ b₀ count two-up up own down two-down k₀ a b k = count - k
+
+array-read-two-up : tie.Need-array-read-two-up Inv-loop μ-loop
+array-read-two-up c = search needs
+
+array-read-up : tie.Need-array-read-up Inv-loop μ-loop
+array-read-up c = search needs
+
+array-read-own : tie.Need-array-read-own Inv-loop μ-loop
+array-read-own c = search needs
+
+array-read-down : tie.Need-array-read-down Inv-loop μ-loop
+array-read-down c = search needs
+
+array-read-two-down : tie.Need-array-read-two-down Inv-loop μ-loop
+array-read-two-down c = search needs
 
 loop-holds : tie.Need-loop-holds Inv-loop μ-loop
-loop-holds c = (omega arith, entries-none (c .pre .0 .2), entries-none (c .pre .0 .3))
+loop-holds c =
+    let room = c .pre .1 .room in (
+      omega arith,
+      entries-none (c .pre .0 .2),
+      entries-none (c .pre .0 .3),
+      (room 0 (omega arith), room 1 (omega arith), room 2 (omega arith), room 3 (omega arith), room 4 (omega arith)),
+    )
 
 mul-j : tie.Need-mul-j Inv-loop μ-loop
 mul-j c = search needs
@@ -79,8 +103,8 @@ line-requires : tie.Need-line-requires Inv-loop μ-loop
 line-requires c κs =
     let at-loop = c .before .before .before .before .before .before in
     let start = at-loop .before in
-    across-reads (start .args .c + 2 * start .args .count + 9) (start .args .c + 2 * at-loop .loop .k + 8) (start .args .rows .now)
-    (start .pre .1) (omega arith) (omega arith)
+    let a = start .args in
+    across-reads (a .c + 2 * a .count + 9) (a .c + 2 * at-loop .loop .k + 8) (a .t2) (a .rows .now) (start .pre .1) (omega arith) (omega arith)
 
 add-b : tie.Need-add-b Inv-loop μ-loop
 add-b c = search needs
@@ -109,14 +133,17 @@ mul-line-6 c = search needs
 element-copy-out-line-6 : tie.Need-element-copy-out-line-6 Inv-loop μ-loop
 element-copy-out-line-6 c = search needs
 
+add-line-5 : tie.Need-add-line-5 Inv-loop μ-loop
+add-line-5 c = search needs
+
 mul-line-7 : tie.Need-mul-line-7 Inv-loop μ-loop
 mul-line-7 c = search needs
 
 element-copy-out-line-7 : tie.Need-element-copy-out-line-7 Inv-loop μ-loop
 element-copy-out-line-7 c = search needs
 
-add-line-5 : tie.Need-add-line-5 Inv-loop μ-loop
-add-line-5 c = search needs
+add-line-6 : tie.Need-add-line-6 Inv-loop μ-loop
+add-line-6 c = search needs
 
 mul-line-8 : tie.Need-mul-line-8 Inv-loop μ-loop
 mul-line-8 c = search needs
@@ -128,14 +155,14 @@ line-requires-2 : tie.Need-line-requires-2 Inv-loop μ-loop
 line-requires-2 c κs =
     let at-loop = c .before .before .before .before .before .before .before .before .before .before .before in
     let start = at-loop .before in
-    down-reads (start .args .c + 2 * start .args .count + 9) (start .args .c + 2 * at-loop .loop .k + 8) (start .args .rows .now)
-    (start .pre .1) (omega arith)
+    let a = start .args in
+    down-reads (a .c + 2 * a .count + 9) (a .c + 2 * at-loop .loop .k + 8) (a .t2) (a .rows .now) (start .pre .1) (omega arith)
 
-add-t19 : tie.Need-add-t19 Inv-loop μ-loop
-add-t19 c = search needs
+add-t29 : tie.Need-add-t29 Inv-loop μ-loop
+add-t29 c = search needs
 
-mul-t11 : tie.Need-mul-t11 Inv-loop μ-loop
-mul-t11 c = search needs
+mul-t30 : tie.Need-mul-t30 Inv-loop μ-loop
+mul-t30 c = search needs
 
 element-set-from-b-2 : tie.Need-element-set-from-b-2 Inv-loop μ-loop
 element-set-from-b-2 c = search needs
@@ -150,17 +177,13 @@ loop-again : tie.Need-loop-again Inv-loop μ-loop
 loop-again c =
     let after-line = c .before .before .before .before .before in
     let at-loop = after-line .before .before .before .before .before .before .before in
-    let start = at-loop .before in
     let k = at-loop .loop .k in
-    let across = after-line .line .ensures in
-    let back : k ≡ k + 4 - 4 = omega arith in (
+    let inv = at-loop .loop .inv in
+    let back : k + 4 - 4 ≡ k = omega arith in (
       omega arith,
-      entries-next (at-loop .loop .inv .1) (omega arith) (omega arith)
-          (as-read (after-line .line .ok)
-          ∙ (across ∙ ap (λ (x : ℕ). across-difference (start .args .rows .now) (start .args .c + 2 * x + 8)) back)),
-      entries-next (at-loop .loop .inv .2) (omega arith) (omega arith)
-          (as-read (c .line2 .ok)
-          ∙ (c .line2 .ensures ∙ ap (λ (x : ℕ). down-difference (start .args .rows .now) (start .args .c + 2 * x + 8)) back)),
+      entries-next (inv .1) (omega arith) (omega arith) (rw (back, as-read (after-line .line .ok)) (after-line .line .ensures)),
+      entries-next (inv .2) (omega arith) (omega arith) (rw (back, as-read (c .line2 .ok)) (c .line2 .ensures)),
+      inv .3,
     )
 
 returns : tie.Need-returns Inv-loop μ-loop
@@ -174,6 +197,11 @@ line-row-spec =
     (tie.spec
     Inv-loop
     μ-loop
+    array-read-two-up
+    array-read-up
+    array-read-own
+    array-read-down
+    array-read-two-down
     loop-holds
     mul-j
     add-j
@@ -203,14 +231,15 @@ line-row-spec =
     add-line-4
     mul-line-6
     element-copy-out-line-6
+    add-line-5
     mul-line-7
     element-copy-out-line-7
-    add-line-5
+    add-line-6
     mul-line-8
     element-copy-out-line-8
     line-requires-2
-    add-t19
-    mul-t11
+    add-t29
+    mul-t30
     element-set-from-b-2
     add-k
     loop-less

@@ -7,39 +7,30 @@ use borrow.Author.Needs.{needs}
 use Rattle.first_stage.proofs.gradient_line.Statement.{statement}
 use Rattle.first_stage.proofs.gradient_line.Tie as tie
 
-add-load-rows : tie.Need-add-load-rows
-add-load-rows c = search needs
-
-load-rows-requires : tie.Need-load-rows-requires
-load-rows-requires c κs = search needs
+abbrev start-of : tie.After-east-line → tie.Start
+start-of c = c .before .before .before
 
 east-line-requires : tie.Need-east-line-requires
-east-line-requires c κs =
-    let start = c .before .before .before .before .before .before in (
-      record {
-        samples = start .args .mosaic .now;
-        holds = record { taken = start .pre .0; inside = start .pre .1 .0 .0; seven = c .before .before .before .load-rows .ensures };
-      },
-      (start .pre .1 .1 .1, start .pre .1 .0 .2),
-    )
+east-line-requires c κs = search needs
 
 south-at-requires : tie.Need-south-at-requires
 south-at-requires c κs = search needs
 
 south-line-requires : tie.Need-south-line-requires
 south-line-requires c κs =
-    let start = c .before .before .before .before .before .before .before .before .before .before .before .before in
+    let east = c .before .before .before .before .before in
+    let start = start-of east in
     let args = start .args in
-    let loaded = c .before .before .before .before .before .before .before .before .before .load-rows .ensures in
+    let some = start .pre .0 in
+    let reads = some .holds in
     record {
-      samples = args .mosaic .now;
+      samples = some .samples;
       row = args .i + 2;
-      reads = reads-two-down (args .i) (start .pre .0) (start .pre .1 .0 .1) loaded;
-      v-size = start .pre .1 .1 .2;
-      room = south-room (frame (args .shape) (args .mosaic .now)) (args .i) _ (start .pre .0) (start .pre .1 .0 .0) (start .pre .1 .0 .2)
-          (c .before .before .before .before .before .east-line .ensures .0 .row (args .mosaic .now)
-          (record { taken = start .pre .0; inside = start .pre .1 .0 .0; seven = loaded }))
-          (c .south-at .ensures);
+      reads = reads-two-down (args .i) (reads .taken) (start .pre .1 .0 .0) (reads .seven);
+      v-size = start .pre .1 .1 .0;
+      gradients-size = east .east-line .ensures .1;
+      room = south-room (frame (args .shape) (some .samples)) (args .i) _ (reads .taken) (reads .inside) (start .pre .1 .0 .1)
+          (east .east-line .ensures .0 .row (some .samples) reads) (c .south-at .ensures);
     }
 
 same-length : tie.Need-same-length
@@ -47,30 +38,17 @@ same-length c = search needs
 
 returns : tie.Need-returns
 returns c =
-    let start = c .before .before .before .before .before .before .before .before .before .before .before .before .before .before in
+    let after-east = c .before .before .before .before .before .before .before in
+    let start = start-of after-east in
     let args = start .args in
-    let loaded = c .before .before .before .before .before .before .before .before .before .before .before .load-rows .ensures in
-    let east = c .before .before .before .before .before .before .before .east-line .ensures in
     let south = c .before .south-line .ensures in (
-      loaded,
-      (
-        gradients-stored (frame (args .shape) (args .mosaic .now)) (args .i) _
-            (east .0 .row (args .mosaic .now) (record { taken = start .pre .0; inside = start .pre .1 .0 .0; seven = loaded }))
-            (south .0 .row (args .mosaic .now) (args .i + 2)
-            (reads-two-down (args .i) (start .pre .0) (start .pre .1 .0 .1) loaded))
-            (c .before .before .south-at .ensures),
-        (east .1, south .1),
-      ),
+      record {
+        row = λ zs reads. gradients-stored (frame (args .shape) zs) (args .i) _ (after-east .east-line .ensures .0 .row zs reads)
+            (south .0 .row zs (args .i + 2) (reads-two-down (args .i) (reads .taken) (start .pre .1 .0 .0) (reads .seven)))
+            (c .before .before .south-at .ensures);
+      },
+      south .1,
     )
 
 pub gradient-line-spec : {M : Type 1} → statement M
-gradient-line-spec =
-    tie.close
-    (tie.spec
-    add-load-rows
-    load-rows-requires
-    east-line-requires
-    south-at-requires
-    south-line-requires
-    same-length
-    returns)
+gradient-line-spec = tie.close (tie.spec east-line-requires south-at-requires south-line-requires same-length returns)

@@ -14,7 +14,7 @@ use Rattle.first_stage.proofs.trial_line.Tie as tie
 half-count-requires : tie.Need-half-count-requires
 half-count-requires c κs =
     let r = c .pre .0 .holds in
-    (r .lent .taken .wide, r .lent .taken .narrow, start-low _ _ _ _ _ _ r)
+    (r .lent .taken .wide, r .lent .taken .narrow, start-low _ _ _ _ _ _ _ _ r)
 
 record-at-requires : tie.Need-record-at-requires
 record-at-requires c κs = search needs
@@ -22,15 +22,19 @@ record-at-requires c κs = search needs
 south-at-requires : tie.Need-south-at-requires
 south-at-requires c κs = search needs
 
-mul-at : tie.Need-mul-at
-mul-at c = search needs
+mul-to : tie.Need-mul-to
+mul-to c =
+    let start = c .before .before .before in
+    let lent = start .pre .0 .holds .lent in
+    let row = plane-row _ _ 0 (lent .taken) (lent .inside) (omega arith) in
+    omega arith
 
 line-row-requires : tie.Need-line-row-requires
 line-row-requires c κs =
     let start = c .before .before .before .before .before in
     let r = start .pre .0 .holds in
     let count = c .before .before .before .before .half-count .ensures in
-    ((start-low _ _ _ _ _ _ r, count .2, start .pre .1 .0 .1, start .pre .1 .0 .2), lines-small _ _ _ _ _ _ _ r (count .0))
+    ((start-low _ _ _ _ _ _ _ _ r, count .2, start .pre .1 .0 .1, start .pre .1 .0 .2), lines-small _ _ _ _ _ _ _ _ _ r (count .0))
 
 north-requires : tie.Need-north-requires
 north-requires c κs =
@@ -38,7 +42,7 @@ north-requires c κs =
     let start = after-count .before in
     let args = start .args in
     let count = after-count .half-count .ensures in
-    north-room (frame (args .shape) (start .pre .0 .samples)) (args .i) 0 _ _ _ _ (start .pre .0 .holds .lent)
+    north-room (frame (args .shape) (start .pre .0 .samples)) (args .i) (args .base) 0 _ _ _ _ (start .pre .0 .holds .lent)
     (omega (arith, count .0, count-high (args .shape .width) (args .c))) (count .2) (start .pre .1 .0 .0)
 
 trial-row-requires : tie.Need-trial-row-requires
@@ -56,7 +60,7 @@ trial-row-requires c κs =
     let planes = start .pre .1 .1 in
     let room = plane-row (frame (args .shape) (start .pre .0 .samples)) (args .i) (after-count .half-count .result) (r .lent .taken) (r .lent .inside)
     (omega (arith, count, count-high (args .shape .width) (args .c))) in (
-      trial-reads (frame (args .shape) (start .pre .0 .samples)) (args .i) (args .c) _ _ _ _ _ _ _ _ _ r count
+      trial-reads (frame (args .shape) (start .pre .0 .samples)) (args .i) (args .base) (args .c) _ _ _ _ _ _ _ _ _ _ r count
           (after-east .record-at .ensures .0) (after-south .south-at .ensures) (after-north .north .ensures) (lines .0) (lines .1),
       (omega (arith, room, planes .0), omega (arith, room, planes .0), planes .1 ∙ sym (planes .0)),
     )
@@ -83,12 +87,12 @@ returns c =
     let norths = after-north .north .ensures in
     let stored = after-trials .trial-row .ensures in (
       record {
-        row = λ zs r. trials-stored (frame (args .shape) zs) (args .i) (args .c) _ _ _ _ _ _ _ _ _ r count east south norths
+        row = λ zs r. trials-stored (frame (args .shape) zs) (args .i) (args .base) (args .c) _ _ _ _ _ _ _ _ _ _ r count east south norths
             (lines .0) (lines .1) diagonal (stored .0);
       },
       (
         record {
-          row = λ zs r. trials-stored (frame (args .shape) zs) (args .i) (args .c) _ _ _ _ _ _ _ _ _ r count east south norths
+          row = λ zs r. trials-stored (frame (args .shape) zs) (args .i) (args .base) (args .c) _ _ _ _ _ _ _ _ _ _ r count east south norths
               (lines .0) (lines .1) vertical (stored .1);
         },
         (norths .size, lines .0 .size, lines .1 .size),
@@ -102,7 +106,7 @@ trial-line-spec =
     half-count-requires
     record-at-requires
     south-at-requires
-    mul-at
+    mul-to
     line-row-requires
     north-requires
     trial-row-requires

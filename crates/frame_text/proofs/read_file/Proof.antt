@@ -1,8 +1,7 @@
 -- `frame_text::read_file` meets its contract. Assumes nothing.
-use mathlib.Core.Path.{_≡_, sym, _∙_}
+use mathlib.Core.Path.{sym, _∙_}
 use Prim.Native.Nat.{_*_, _≤_}
 use native.Mathlib.Omega.{arith}
-use Rattle.frame_file.specs.FrameFile.{read-answer}
 use Rattle.text.specs.Put.{put-as}
 use Rattle.frame_text.specs.Buffers.{parts-lent}
 use Rattle.frame_text.specs.Reads.{few, refusal-printed, frame-printed}

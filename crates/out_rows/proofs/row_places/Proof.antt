@@ -3,7 +3,9 @@ use borrow.Author.Needs.{needs}
 use mathlib.Core.Path.{refl, _∙_, ap}
 use Prim.Native.Nat.{ℕ, _+_, _*_}
 use Rattle.positions.specs.HalfRowLaws.{count-high}
+use Rattle.positions.specs.Rings.{ring-row}
 use Rattle.records.specs.Layout.{record-size, final-part, other-part}
+use Rattle.out_rows.specs.PlaceLaws.{south-record, north-record}
 use Rattle.out_rows.proofs.row_places.Statement.{statement}
 use Rattle.out_rows.proofs.row_places.Tie as tie
 
@@ -29,19 +31,19 @@ other-at-requires : tie.Need-other-at-requires
 other-at-requires c κs = search needs
 
 final-at-requires-2 : tie.Need-final-at-requires-2
-final-at-requires-2 c κs = search needs
+final-at-requires-2 c κs = south-record (c .before .before .before .before .before .before .pre .0) (c .before .before .before .before .before .before .pre .1) (c .before .before .before .reflected .ensures)
 
 other-at-requires-2 : tie.Need-other-at-requires-2
-other-at-requires-2 c κs = search needs
+other-at-requires-2 c κs = south-record (c .before .before .before .before .before .before .before .pre .0) (c .before .before .before .before .before .before .before .pre .1) (c .before .before .before .before .reflected .ensures)
 
 final-at-requires-3 : tie.Need-final-at-requires-3
-final-at-requires-3 c κs = search needs
+final-at-requires-3 c κs = north-record (c .before .before .before .before .before .before .before .before .pre .0) (c .before .before .before .before .before .before .before .before .pre .1) (c .before .before .before .before .reflected-less .ensures)
 
 other-at-requires-3 : tie.Need-other-at-requires-3
-other-at-requires-3 c κs = search needs
+other-at-requires-3 c κs = north-record (c .before .before .before .before .before .before .before .before .before .pre .0) (c .before .before .before .before .before .before .before .before .before .pre .1) (c .before .before .before .before .before .reflected-less .ensures)
 
-sub-t12 : tie.Need-sub-t12
-sub-t12 c =
+sub-t13 : tie.Need-sub-t13
+sub-t13 c =
     let count = c .before .before .before .before .before .before .before .before in
     let chroma = count .before in
     rw (count .half-count .ensures .0) (count-high (chroma .before .args .shape .width) (chroma .first-chroma .result))
@@ -49,17 +51,17 @@ sub-t12 c =
 record-at-requires : tie.Need-record-at-requires
 record-at-requires c κs = search needs
 
-add-t14 : tie.Need-add-t14
-add-t14 c = search needs
-
 add-t15 : tie.Need-add-t15
 add-t15 c = search needs
+
+add-t16 : tie.Need-add-t16
+add-t16 c = search needs
 
 south-at-requires : tie.Need-south-at-requires
 south-at-requires c κs = search needs
 
-add-t17 : tie.Need-add-t17
-add-t17 c = search needs
+add-t18 : tie.Need-add-t18
+add-t18 c = search needs
 
 returns : tie.Need-returns
 returns c =
@@ -84,10 +86,10 @@ returns c =
       south-is = ap (λ (x : ℕ). x + count .half-count .result) (south .south-at .ensures);
       finals-is = finals .final-at .ensures;
       others-is = others .other-at .ensures;
-      finals-south-is = below-finals .final-at2 .ensures ∙ ap (λ (r : ℕ). r * record-size w + final-part w) (down .reflected .ensures .0);
-      finals-north-is = above-finals .final-at3 .ensures ∙ ap (λ (r : ℕ). r * record-size w + final-part w) (up .reflected-less .ensures .0);
-      others-south-is = below-others .other-at2 .ensures ∙ ap (λ (r : ℕ). r * record-size w + other-part w) (down .reflected .ensures .0);
-      others-north-is = above-others .other-at3 .ensures ∙ ap (λ (r : ℕ). r * record-size w + other-part w) (up .reflected-less .ensures .0);
+      finals-south-is = below-finals .final-at2 .ensures ∙ ap (λ (r : ℕ). ring-row r * record-size w + final-part w) (down .reflected .ensures .0);
+      finals-north-is = above-finals .final-at3 .ensures ∙ ap (λ (r : ℕ). ring-row r * record-size w + final-part w) (up .reflected-less .ensures .0);
+      others-south-is = below-others .other-at2 .ensures ∙ ap (λ (r : ℕ). ring-row r * record-size w + other-part w) (down .reflected .ensures .0);
+      others-north-is = above-others .other-at3 .ensures ∙ ap (λ (r : ℕ). ring-row r * record-size w + other-part w) (up .reflected-less .ensures .0);
     }
 
 pub row-places-spec : {M : Type 1} → statement M
@@ -105,10 +107,10 @@ row-places-spec =
     other-at-requires-2
     final-at-requires-3
     other-at-requires-3
-    sub-t12
+    sub-t13
     record-at-requires
-    add-t14
     add-t15
+    add-t16
     south-at-requires
-    add-t17
+    add-t18
     returns)

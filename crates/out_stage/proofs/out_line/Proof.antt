@@ -1,81 +1,101 @@
 -- `out_stage::out_line` meets its contract. Assumes nothing.
+use Rattle.half_rows.specs.SiteGradients.{own-record}
+use Rattle.out_rows.specs.RowPlaces.{Row-of}
+use Rattle.out_stage.specs.RowOutputs.{outputs-read}
+use Rattle.out_stage.specs.PlaneRows.{out-stored}
 use borrow.Author.Needs.{needs}
 use Rattle.out_stage.proofs.out_line.Statement.{statement}
 use Rattle.out_stage.proofs.out_line.Tie as tie
 
--- src/lib.rt:142:9
-row-places-requires : tie.Need-row-places-requires
-row-places-requires c κs = search needs
+-- the calls before a call: the row's places, its entry in the ring, its differences, its outputs
+abbrev entry-of : tie.After-row-differences → tie.After-row-at
+entry-of c = c .before .before .before .before .before .before
 
--- src/lib.rt:143:5
+abbrev differences-of : tie.After-row-outputs → tie.After-row-differences
+differences-of c = c .before .before .before .before .before .before .before .before .before
+
+abbrev start-of : tie.After-row-at → tie.Start
+start-of c = c .before .before
+
+row-of : (start : tie.Start) → Row-of (start .args .shape) (start .args .i)
+row-of start =
+    let lent = start .pre .0 .holds .reads .reads .lent in
+    let t = lent .taken in
+    record { wide = t .wide; narrow = t .narrow; tall = t .tall; low = t .low; phase-small = t .phase-small; inside = lent .inside }
+
+row-places-requires : tie.Need-row-places-requires
+row-places-requires c κs = (row-of c, c .pre .0 .holds .reads .reads .lent .round)
+
+row-at-requires : tie.Need-row-at-requires
+row-at-requires c κs = let own = own-record (c .before .pre .0 .holds .reads .reads .lent) in (own .1, own .2)
+
 row-differences-requires : tie.Need-row-differences-requires
 row-differences-requires c κs =
-    let places = c .before .before .before .before .before in
-    let start = places .before .before in
+    let entry = c .before .before .before .before .before in
+    let start = start-of entry in
     let l = start .pre .1 .1 in (
-      record { samples = start .args .mosaic .now; holds = start .pre .0 },
-      (places .row-places .ensures, (l .1, l .2, l .3, l .8, l .9)),
+      record { samples = start .pre .0 .samples; holds = start .pre .0 .holds .reads },
+      (entry .before .row-places .ensures, (l .0, l .1, l .2, l .7, l .8)),
     )
 
--- src/lib.rt:144:5
 row-outputs-requires : tie.Need-row-outputs-requires
 row-outputs-requires c κs =
-    let differences = c .before .before .before .before .before .before .before .before .before in
-    let places = differences .before .before .before .before .before .before in
-    let start = places .before .before in
-    let l = start .pre .1 .1 in
-    let lent = start .pre .0 .reads .lent in (
-      (lent .taken, lent .inside, places .row-places .ensures),
-      (differences .row-differences .ensures .0 .row (start .args .mosaic .now) (start .pre .0), (l .0, l .4, l .5, l .6, l .7)),
+    let differences = c .before .before .before .before .before .before .before .before in
+    let entry = entry-of differences in
+    let start = start-of entry in
+    let zs = start .pre .0 .samples in
+    let lent = start .pre .0 .holds in
+    let l = start .pre .1 .1 in (
+      record {
+        samples = zs;
+        holds = outputs-read lent (entry .row-at .ensures .0) (differences .row-differences .ensures .0 .row zs (lent .reads));
+      },
+      ((entry .before .row-places .ensures, entry .row-at .ensures .1), (l .3, l .4, l .5, l .6)),
     )
 
--- src/lib.rt:145:5
 store-outputs-requires : tie.Need-store-outputs-requires
 store-outputs-requires c κs =
     let outputs = c .before .before .before .before .before .before .before .before .before in
-    let differences = outputs .before .before .before .before .before .before .before .before .before .before in
-    let places = differences .before .before .before .before .before .before in
-    let start = places .before .before in
-    let lent = start .pre .0 .reads .lent in
-    let t = lent .taken in
+    let entry = entry-of (differences-of outputs) in
+    let start = start-of entry in
     record {
-      row = record { wide = t .wide; narrow = t .narrow; tall = t .tall; low = t .low; phase-small = t .phase-small; inside = lent .inside };
-      start-is = places .row-places .ensures .start-is;
+      row = row-of start;
+      start-is = entry .before .row-places .ensures .start-is;
       red-size = start .pre .1 .0 .0;
       green-size = start .pre .1 .0 .1;
       blue-size = start .pre .1 .0 .2;
     }
 
--- src/lib.rt:114:1
 same-length : tie.Need-same-length
 same-length c = search needs
 
--- src/lib.rt:114:1
 same-length-2 : tie.Need-same-length-2
 same-length-2 c = search needs
 
--- src/lib.rt:114:1
 same-length-3 : tie.Need-same-length-3
 same-length-3 c = search needs
 
--- src/lib.rt:114:1
 returns : tie.Need-returns
 returns c =
     let store = c .before .before .before in
     let outputs = store .before .before .before .before .before .before .before .before .before .before in
-    let differences = outputs .before .before .before .before .before .before .before .before .before .before in
-    let start = differences .before .before .before .before .before .before .before .before in
-    let zs = start .args .mosaic .now in
-    let d = differences .row-differences .ensures .0 .row zs (start .pre .0) in
-    let o = outputs .row-outputs .ensures .0 in
-    let stored = store .store-outputs .ensures in (
-      stored .0 .row zs o,
+    let differences = differences-of outputs in
+    let entry = entry-of differences in
+    let start = start-of entry in
+    let zs = start .pre .0 .samples in
+    let lent = start .pre .0 .holds in
+    let place = entry .row-at .ensures .0 in
+    let formed = differences .row-differences .ensures .0 in
+    let made = outputs .row-outputs .ensures in
+    let stored = store .store-outputs .ensures in
+    let d = formed .row zs (lent .reads) in
+    let o = made .row zs (outputs-read lent place d) in (
+      out-stored formed place made (stored .0),
       (
-        stored .1 .0 .row zs o,
+        out-stored formed place made (stored .1 .0),
         (
-          stored .1 .1 .row zs o,
+          out-stored formed place made (stored .1 .1),
           (
-            outputs .row-outputs .ensures .1,
             differences .row-differences .ensures .1,
             d .chroma-own .size,
             d .chroma-other .size,
@@ -95,6 +115,7 @@ out-line-spec =
     tie.close
     (tie.spec
     row-places-requires
+    row-at-requires
     row-differences-requires
     row-outputs-requires
     store-outputs-requires

@@ -13,8 +13,8 @@ copy-requires c κs =
     let a = start .args in
     let zs = start .pre .0 .samples in
     let reads = start .pre .0 .holds in (
-      finals-inside (a .shape) zs (a .i) (a .p) (start .pre .1 .0) (a .tops .now) (a .work .now) reads,
-      work-most (frame (a .shape) zs) (a .i) (a .tops .now) (a .work .now) (reads .reads .lent),
+      finals-inside (a .shape) zs (a .i) (a .p) (start .pre .1 .0) (a .base) (a .tops .now) (a .work .now) reads,
+      work-most (frame (a .shape) zs) (a .i) (a .base) (a .tops .now) (a .work .now) (reads .reads .lent),
       count-few (a .shape) zs (a .i) (a .p) (start .pre .1 .0) (reads .reads .lent .taken .narrow),
       start .pre .1 .1 .1,
     )
@@ -25,8 +25,8 @@ copy-requires-2 c κs =
     let a = start .args in
     let zs = start .pre .0 .samples in
     let reads = start .pre .0 .holds in (
-      others-inside (a .shape) zs (a .i) (a .p) (start .pre .1 .0) (a .tops .now) (a .work .now) reads,
-      work-most (frame (a .shape) zs) (a .i) (a .tops .now) (a .work .now) (reads .reads .lent),
+      others-inside (a .shape) zs (a .i) (a .p) (start .pre .1 .0) (a .base) (a .tops .now) (a .work .now) reads,
+      work-most (frame (a .shape) zs) (a .i) (a .base) (a .tops .now) (a .work .now) (reads .reads .lent),
       count-few (a .shape) zs (a .i) (a .p) (start .pre .1 .0) (reads .reads .lent .taken .narrow),
       start .pre .1 .1 .2,
     )
@@ -63,7 +63,7 @@ north-requires c κs =
     let a = start .args in
     let zs = start .pre .0 .samples in
     let reads = start .pre .0 .holds in
-    north-room (frame (a .shape) zs) (a .i) (a .p .count) (a .p .rest) (a .tops .now) (a .work .now) _ (reads .reads .lent)
+    north-room (frame (a .shape) zs) (a .i) (a .base) (a .p .count) (a .p .rest) (a .tops .now) (a .work .now) _ (reads .reads .lent)
     (both-inside (a .shape) zs (a .i) (a .p) (start .pre .1 .0))
     (rest-few (a .shape) zs (a .i) (a .p) (start .pre .1 .0) (reads .reads .lent .taken .narrow)) (start .pre .1 .1 .0)
 
@@ -76,7 +76,7 @@ direct-means-requires c κs =
     let copy = copy2 .before .before in
     let start = copy .before .before .before in
     let a = start .args in (
-      means-asked (a .shape) (start .pre .0 .samples) (a .i) (a .p) (start .pre .1 .0) (a .tops .now) (a .work .now) (start .pre .0 .holds)
+      means-asked (a .shape) (start .pre .0 .samples) (a .i) (a .p) (start .pre .1 .0) (a .base) (a .tops .now) (a .work .now) (start .pre .0 .holds)
           _ _ _ _ _ (north .north .ensures) (copy .copy .ensures) (mirror .mirror .ensures) (copy2 .copy2 .ensures) (mirror2 .mirror2 .ensures),
       (start .pre .1 .1 .3, start .pre .1 .1 .4),
     )
@@ -91,7 +91,7 @@ returns c =
     let start = copy .before .before .before in
     let a = start .args in (
       record {
-        row = λ zs reads. differences-are (a .shape) zs (a .i) (a .p) (start .pre .1 .0) (a .tops .now) (a .work .now) reads
+        row = λ zs reads. differences-are (a .shape) zs (a .i) (a .p) (start .pre .1 .0) (a .base) (a .tops .now) (a .work .now) reads
             _ _ _ _ _ (north .north .ensures) (copy .copy .ensures) (mirror .mirror .ensures) (copy2 .copy2 .ensures) (mirror2 .mirror2 .ensures)
             _ _ (c .direct-means .ensures .0) (c .direct-means .ensures .1);
       },

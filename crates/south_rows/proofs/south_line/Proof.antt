@@ -1,12 +1,25 @@
 -- `south_rows::south_line` meets its contract. Both halves are one row in halves (`halves-stored`). Assumes nothing.
-use mathlib.Core.Path.{_∙_}
+use mathlib.Core.Path.{_≡_, _∙_}
 use native.Mathlib.Omega.{arith}
 use borrow.Author.Needs.{needs}
 use Rattle.frame.specs.Sites.{frame}
+use Rattle.positions.specs.HalfRows.{half-count}
 use Rattle.south_rows.specs.NorthRows.{halves-stored}
-use Rattle.south_rows.specs.Lent.{lent-limits, lent-small, count-fits, first-lent, second-lent}
+use Rattle.south_rows.specs.SevenRowLaws.{north-formed}
+use Rattle.south_rows.specs.Lent.{lent-limits, lent-small, count-fits, north-reads, first-fits, second-fits}
 use Rattle.south_rows.proofs.south_line.Statement.{statement}
 use Rattle.south_rows.proofs.south_line.Tie as tie
+
+-- N of the row is formed
+module _ (c : tie.After-north-row) where
+  abbrev counted : tie.After-half-count
+  counted = c .before .before .before .before .before
+
+  abbrev start : tie.Start
+  start = counted .before
+
+  count : counted .half-count .result ≡ half-count (start .args .shape .width) (start .args .c)
+  count = counted .half-count .ensures .0
 
 half-count-requires : tie.Need-half-count-requires
 half-count-requires c κs = lent-limits (c .pre)
@@ -16,45 +29,49 @@ down-row-requires c κs =
     let l = c .before .before .pre in
     ((lent-limits l .1, l .v-size), lent-small l)
 
-add-south-half : tie.Need-add-south-half
-add-south-half c = omega (arith, lent-limits (c .before .before .before .before .pre))
+north-row-requires : tie.Need-north-row-requires
+north-row-requires c κs =
+    let l = c .before .before .before .before .before .pre in
+    (north-reads l (c .before .before .down-row .ensures), l .gradients-size)
 
-south-half-requires : tie.Need-south-half-requires
-south-half-requires c κs =
-    let count = c .before .before .before .before .half-count .ensures .0 in
-    first-lent (c .before .before .before .before .before .pre) count (c .before .before .down-row .ensures)
+add-take-half : tie.Need-add-take-half
+add-take-half c = omega (arith, lent-limits (start (c .before) .pre))
 
-sub-south-half : tie.Need-sub-south-half
-sub-south-half c = omega (arith, lent-limits (c .before .before .before .before .before .before .before .before .pre))
+take-half-requires : tie.Need-take-half-requires
+take-half-requires c κs = first-fits (start (c .before .before) .pre) (count (c .before .before))
 
-sub-south-half-2 : tie.Need-sub-south-half-2
-sub-south-half-2 c =
-    let count = c .before .before .before .before .before .before .before .half-count .ensures .0 in
-    count-fits (c .before .before .before .before .before .before .before .before .pre) count
+sub-take-half : tie.Need-sub-take-half
+sub-take-half c = omega (arith, lent-limits (start (c .before .before .before .before .before) .pre))
 
-add-south-half-2 : tie.Need-add-south-half-2
-add-south-half-2 c = search needs
+sub-take-half-2 : tie.Need-sub-take-half-2
+sub-take-half-2 c =
+    let formed = c .before .before .before .before .before in
+    count-fits (start formed .pre) (count formed)
 
-south-half-requires-2 : tie.Need-south-half-requires-2
-south-half-requires-2 c κs =
-    let lent = c .before .before .before .before .before .before .before .before .before .pre in
-    let count = c .before .before .before .before .before .before .before .before .half-count .ensures .0 in
-    let pairs = c .before .before .before .before .before .before .down-row .ensures in
-    second-lent lent count pairs _ (c .before .before .before .south-half .ensures .size)
+add-take-half-2 : tie.Need-add-take-half-2
+add-take-half-2 c = search needs
+
+take-half-requires-2 : tie.Need-take-half-requires-2
+take-half-requires-2 c κs =
+    let formed = c .before .before .before .before .before .before in
+    second-fits (start formed .pre) (count formed) (c .before .before .before .take-half .ensures .size)
 
 same-length : tie.Need-same-length
-same-length c = c .before .south-half2 .ensures .size ∙ c .before .before .before .before .before .south-half .ensures .size
+same-length c = c .before .take-half2 .ensures .size ∙ c .before .before .before .before .before .take-half .ensures .size
 
 returns : tie.Need-returns
 returns c =
-    let a = c .before .before .before .before .before .before .before .before .before .before .before .args in
-    let count = c .before .before .before .before .before .before .before .before .before .before .half-count .ensures .0 in
-    let first = c .before .before .before .before .before .south-half .ensures in (
+    let formed = c .before .before .before .before .before .before .before .before in
+    let a = start formed .args in
+    let pairs = formed .before .before .before .down-row .ensures in
+    let first = c .before .before .before .before .before .take-half .ensures in (
       record {
         row = λ zs x reads.
-            halves-stored (frame (a .shape) zs) x (a .c) (a .rows .now) reads count first (c .before .south-half2 .ensures);
+            halves-stored (frame (a .shape) zs) x (a .c) (a .t2) (a .rows .now) reads _
+            (north-formed (a .shape .width) (a .rows .now) (a .t2) _ pairs (formed .north-row .ensures)) (count formed) first
+            (c .before .take-half2 .ensures);
       },
-      c .before .before .before .before .before .before .before .before .down-row .ensures .size,
+      (pairs .size, formed .north-row .ensures .size),
     )
 
 pub south-line-spec : {M : Type 1} → statement M
@@ -63,11 +80,14 @@ south-line-spec =
     (tie.spec
     half-count-requires
     down-row-requires
-    add-south-half
-    south-half-requires
-    sub-south-half
-    sub-south-half-2
-    add-south-half-2
-    south-half-requires-2
+    (λ c. search needs)
+    (λ c. search needs)
+    north-row-requires
+    add-take-half
+    take-half-requires
+    sub-take-half
+    sub-take-half-2
+    add-take-half-2
+    take-half-requires-2
     same-length
     returns)

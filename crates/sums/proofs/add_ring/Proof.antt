@@ -5,10 +5,8 @@ use native.Mathlib.Omega.{arith}
 use Rattle.frame.specs.Sites.{Frame, frame}
 use Rattle.method.specs.Green.{horizontal, vertical, diagonal}
 use Rattle.positions.specs.HalfRows.{chroma-count}
-use Rattle.sums.specs.Sizes.{columns-sized}
-use Rattle.sums.specs.Steps.{middle}
 use Rattle.sums.specs.Widening.{Stepped, count-is, widens}
-use Rattle.sums.specs.Room.{columns-asked, rows-asked, row-place, before, room-next}
+use Rattle.sums.specs.Room.{columns-asked, rows-asked, both-asked, row-place, before, room-next}
 use borrow.Author.Needs.{needs}
 use Rattle.sums.proofs.add_ring.Statement.{statement}
 use Rattle.sums.proofs.add_ring.Tie as tie
@@ -64,42 +62,31 @@ add-rows-requires c κs =
     (c .before .before .before .before .reflected-less .ensures) (c .before .before .before .reflected .ensures) (m .down-size)
     (before (m .down-most) (omega arith))
 
-add-columns-requires-2 : tie.Need-add-columns-requires-2
-add-columns-requires-2 c κs =
+add-both-requires : tie.Need-add-both-requires
+add-both-requires c κs =
     let s = c .before .before .before .before .before .before .before in
     let r = s .pre .0 .holds in
     let m = s .pre .1 .1 in
-    columns-asked r (same s) (s .pre .1 .0 .2) diagonal _ _ (r .both-row) (m .both-size) (before (m .both-most) (omega arith))
-
-add-rows-requires-2 : tie.Need-add-rows-requires-2
-add-rows-requires-2 c κs =
-    let s = c .before .before .before .before .before .before .before .before .before in
-    let r = s .pre .0 .holds in
-    let m = s .pre .1 .1 in
-    let mid = c .before .add-columns2 .ensures in
-    let asked = columns-asked r (same s) (s .pre .1 .0 .2) diagonal _ _ (r .both-row) (m .both-size) (before (m .both-most) (omega arith)) in
-    rows-asked r (same s) (s .pre .1 .0 .2) diagonal _ _ _ _ _ (middle _ (r .both-row)) (r .planes .diagonals-held)
-    (r .planes .diagonals-size) (c .before .before .before .before .before .before .before .before .reflected-less .ensures)
-    (c .before .before .before .before .before .before .before .reflected .ensures) (mid .size)
-    (before (columns-sized (s .args .t) (s .args .count) (s .pre .1 .0 .2) (asked .1 .0) (m .both-most) mid) (omega arith))
+    both-asked r (same s) (s .pre .1 .0 .2) diagonal _ _ _ _ _ (r .both-row) (r .planes .diagonals-held) (r .planes .diagonals-size)
+    (c .before .before .before .before .before .before .reflected-less .ensures)
+    (c .before .before .before .before .before .reflected .ensures) (m .both-size) (before (m .both-most) (omega arith))
 
 returns : tie.Need-returns
 returns c =
-    let s = c .before .before .before .before .before .before .before .before .before .before in
+    let s = c .before .before .before .before .before .before .before .before in
     let a = s .args in
-    let up = c .before .before .before .before .before .before .before .before .before .reflected-less in
-    let down = c .before .before .before .before .before .before .before .before .reflected in
+    let up = c .before .before .before .before .before .before .before .reflected-less in
+    let down = c .before .before .before .before .before .before .reflected in
     let new : Stepped (a .t) (up .result * a .shape .width) (down .result * a .shape .width) (a .count) (a .diagonals .now)
-    (a .verticals .now) (a .ph .now) (a .pv .now) (a .pd .now) (a .fh .now) (a .fv .now) (a .fd .now) _ _ _ _ = record {
-      across = c .before .before .before .before .before .before .add-columns .ensures;
-      down-columns = c .before .before .before .before .add-rows .ensures;
-      both-first = c .before .before .add-columns2 .ensures;
-      both-second = c .add-rows2 .ensures;
+    (a .verticals .now) (a .ph .now) (a .pv .now) (a .pd .now) (a .fh .now) (a .fv .now) (a .fd .now) _ _ _ = record {
+      across = c .before .before .before .before .add-columns .ensures;
+      down-columns = c .before .before .add-rows .ensures;
+      both = c .add-both .ensures;
     } in (
-      widens (a .shape) (a .i) (a .count) (s .pre .1 .0 .0) (a .t) _ _ (up .result) (down .result) _ _ _ _ _ _ _ _ _ _ _ _
+      widens (a .shape) (a .i) (a .count) (s .pre .1 .0 .0) (a .t) _ _ (up .result) (down .result) _ _ _ _ _ _ _ _ _ _ _
           (s .pre .1 .0 .1) (s .pre .1 .0 .2)
           (up .ensures .0) (down .ensures .0) refl refl new,
-      room-next (s .pre .0 .holds) (same s) (s .pre .1 .0 .2) (up .result) (down .result) _ _ _ _ _ _ _ (up .ensures)
+      room-next (s .pre .0 .holds) (same s) (s .pre .1 .0 .2) (up .result) (down .result) _ _ _ _ _ _ (up .ensures)
           (down .ensures) (s .pre .1 .0 .1)
           (s .pre .1 .1) new,
     )
@@ -117,6 +104,5 @@ add-ring-spec =
     mul-down
     add-columns-requires
     add-rows-requires
-    add-columns-requires-2
-    add-rows-requires-2
+    add-both-requires
     returns)

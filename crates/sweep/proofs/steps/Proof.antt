@@ -3,45 +3,64 @@ use mathlib.Core.Path.{_∙_, sym}
 use Prim.Native.Nat.{_+_, _-_, _≤_}
 use native.Mathlib.Omega.{arith}
 use Rattle.frame.specs.Sites.{frame}
+use Rattle.positions.specs.Rings.{Round}
+use Rattle.positions.specs.RingLaws.{first-round}
 use Rattle.sweep.specs.Invariant.{Sweep}
 use Rattle.stage_turns.specs.Scratch.{Row-arrays, Half-arrays}
+use Rattle.sweep.specs.Loads.{Mosaic-kept}
 use Rattle.sweep.specs.End.{sweep-all}
 use Rattle.sweep.proofs.steps.Statement.{statement}
 use Rattle.sweep.proofs.steps.Tie as tie
 
 abbrev Inv-loop : tie.InvT-loop
-Inv-loop mosaic shape rows₀ alongs₀ v₀ n₀ a₀ b₀ d₀ e₀ f₀ g₀ l₀ m₀ tops₀ work₀ red₀ green₀ blue₀ h t₀ rows alongs v n a b d e f g l m tops work red green blue t =
-    (t ≤ h + 20) × Sweep (frame shape mosaic) t t t t t tops work red green blue × Row-arrays rows alongs v × Half-arrays n a b d e f g l m
+Inv-loop mosaic shape rows₀ alongs₀ v₀ gradients₀ n₀ a₀ b₀ d₀ e₀ f₀ g₀ l₀ m₀ tops₀ work₀ red₀ green₀ blue₀ h t₀ base₀
+    rows alongs v gradients n a b d e f g l m tops work red green blue t base =
+    (t ≤ h + 20) × Sweep (frame shape mosaic) t t t t t tops work red green blue × Mosaic-kept (frame shape mosaic) t rows alongs
+    × Row-arrays v gradients × Half-arrays n a b d e f g l m
+    × Round base (t - 24) t
 
 abbrev μ-loop : tie.MeasureT-loop
-μ-loop mosaic shape rows₀ alongs₀ v₀ n₀ a₀ b₀ d₀ e₀ f₀ g₀ l₀ m₀ tops₀ work₀ red₀ green₀ blue₀ h t₀ rows alongs v n a b d e f g l m tops work red green blue t =
+μ-loop mosaic shape rows₀ alongs₀ v₀ gradients₀ n₀ a₀ b₀ d₀ e₀ f₀ g₀ l₀ m₀ tops₀ work₀ red₀ green₀ blue₀ h t₀ base₀
+    rows alongs v gradients n a b d e f g l m tops work red green blue t base =
     h + 20 - t
 
+-- ---- from the call of a step back to the loop
+
+abbrev nine-lent : tie.After-step-arg18 Inv-loop μ-loop → tie.After-step-arg9 Inv-loop μ-loop
+nine-lent c = c .before .before .before .before .before .before .before .before .before
+
+abbrev in-loop-of : tie.After-step-arg18 Inv-loop μ-loop → tie.In-loop Inv-loop μ-loop
+in-loop-of c = nine-lent c .before .before .before .before .before .before .before .before .before
+
 loop-holds : tie.Need-loop-holds Inv-loop μ-loop
-loop-holds c = (omega arith, c .before .pre .0, c .before .pre .1 .0, c .before .pre .1 .1)
+loop-holds c = (omega arith, c .before .pre .0, c .before .pre .1 .0, c .before .pre .1 .1, c .before .pre .1 .2, first-round)
 
 add-loop : tie.Need-add-loop Inv-loop μ-loop
 add-loop c = omega (arith, c .before .before .pre .0 .buffers .taken .low)
 
 step-requires : tie.Need-step-requires Inv-loop μ-loop
 step-requires c κs =
-    let inv = c .before .before .before .before .before .before .before .before .before .before .before .before .before .before .before .before .before .before .loop .inv in
-    (inv .1, (inv .2, inv .3))
+    let inv = in-loop-of c .before .loop .inv in
+    (inv .1, (inv .2, inv .3, inv .4, inv .5))
+
+next-base-requires : tie.Need-next-base-requires Inv-loop μ-loop
+next-base-requires c κs =
+    let at-loop = in-loop-of (c .before .before .before .before .before .before) .before in
+    (omega (arith, at-loop .before .before .pre .0 .buffers .taken .low, at-loop .loop .inv .0), at-loop .loop .inv .5)
 
 add-t : tie.Need-add-t Inv-loop μ-loop
 add-t c =
-    let at-loop = c .before .before .before .before .before .before .before .before .before .before .before .before .before .before .before .before .before .before .before .before .before .before .before .before in
+    let at-loop = in-loop-of (c .before .before .before .before .before .before .before) .before in
     omega (arith, at-loop .before .before .pre .0 .buffers .taken .low, at-loop .loop .inv .0)
 
 loop-less : tie.Need-loop-less Inv-loop μ-loop
-loop-less c = let in-loop = c .before .before .before .before .before .before .before .before .before .before .before .before .before .before .before .before .before .before .before .before .before .before .before in omega (arith, in-loop .loop-test .taken)
+loop-less c = omega (arith, in-loop-of (c .before .before .before .before .before .before .before) .loop-test .taken)
 
 loop-again : tie.Need-loop-again Inv-loop μ-loop
 loop-again c =
-    let step = c .before .before .before .before .before in
-    let in-loop = step .before .before .before .before .before .before .before .before .before .before .before .before .before .before .before .before .before .before in
+    let step = c .before .before .before .before .before .before in
     let made = step .step .ensures in
-    (omega (arith, in-loop .loop-test .taken), made .0, made .1 .0, made .1 .1)
+    (omega (arith, in-loop-of (step .before) .loop-test .taken), made .0, made .1 .0, made .1 .1, made .1 .2, c .next-base .ensures)
 
 same-length : tie.Need-same-length Inv-loop μ-loop
 same-length c = c .before .loop .inv .1 .buffers .tops-size ∙ sym (c .before .before .before .pre .0 .buffers .tops-size)
@@ -70,6 +89,7 @@ steps-spec =
     loop-holds
     add-loop
     step-requires
+    next-base-requires
     add-t
     loop-less
     loop-again

@@ -1,19 +1,24 @@
 -- `sweep::sweep` meets its contract: before the first step the buffers hold nothing that is asked. Assumes nothing.
 use mathlib.Core.Path.{refl}
 use borrow.Author.Needs.{needs}
+use Rattle.sweep.specs.Loads.{mosaic-none}
 use Rattle.sweep.specs.Steps.{sweep-none}
 use Rattle.sweep.proofs.sweep.Statement.{statement}
 use Rattle.sweep.proofs.sweep.Tie as tie
+
+abbrev start-of : tie.After-tops → tie.Start
+start-of c = c .before .before .before .before .before .before .before .before .before .before .before .before .before .before .before
 
 slice-aggregate-steps : tie.Need-slice-aggregate-steps
 slice-aggregate-steps c = search needs
 
 steps-requires : tie.Need-steps-requires
 steps-requires c κs =
-    let start = c .before .before .before .before .before .before .before .before .before .before .before .before .before .before .before .before .before .before .pre in (
+    let start = start-of (c .before .before .before .before) .pre in (
       sweep-none (record { taken = start .0; tops-size = refl; work-size = start .1 .3 }) (start .1 .0) (start .1 .1) (start .1 .2),
       (
-        record { rows-size = refl; alongs-size = refl; v-size = refl },
+        mosaic-none refl refl,
+        record { v-size = refl; gradients-size = refl },
         record { n-size = refl; a-size = refl; b-size = refl; d-size = refl; e-size = refl; f-size = refl; g-size = refl; l-size = refl; m-size = refl },
       ),
     )

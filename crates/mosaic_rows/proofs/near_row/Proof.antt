@@ -1,0 +1,28 @@
+-- `mosaic_rows::near_row` meets its contract. Assumes nothing.
+use mathlib.Core.Path.{_∙_, ap}
+use Prim.Native.Nat.{ℕ, _*_}
+use native.Mathlib.Omega.{arith}
+use borrow.Author.Needs.{needs}
+use Rattle.positions.specs.Rings.{ring-row}
+use Rattle.mosaic_rows.specs.LoadedRows.{near-entry}
+use Rattle.mosaic_rows.proofs.near_row.Statement.{statement}
+use Rattle.mosaic_rows.proofs.near_row.Tie as tie
+
+add-reflected-less : tie.Need-add-reflected-less
+add-reflected-less c = search needs
+
+reflected-less-requires : tie.Need-reflected-less-requires
+reflected-less-requires c κs = search needs
+
+row-at-requires : tie.Need-row-at-requires
+row-at-requires c κs =
+    let row = c .reflected-less .ensures in
+    let start = c .before .pre in
+    (omega (arith, row .1, start .0 .1), rw (row .0) (start .1 .each _ (start .0 .3)))
+
+returns : tie.Need-returns
+unfolding near-entry
+returns c = c .row-at .ensures .0 ∙ ap (λ (r : ℕ). ring-row r * 4112) (c .before .reflected-less .ensures .0)
+
+pub near-row-spec : {M : Type 1} → statement M
+near-row-spec = tie.close (tie.spec add-reflected-less reflected-less-requires row-at-requires returns)
