@@ -36,7 +36,7 @@ extern "C" {
 #define BAYER_VERSION "1.0.0"
 
 /* A call takes at most this many bytes of the caller's stack: a thread with just this stack may develop from its first function. */
-#define BAYER_STACK_BYTES 262144
+#define BAYER_STACK_BYTES 589824
 
 /* What the calls admit: W and H from least to most, samples from 0 to most. */
 #define BAYER_SIDE_LEAST 2
