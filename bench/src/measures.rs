@@ -1,7 +1,7 @@
 //! What is measured. Times are those that a thread has a core, unless a function says otherwise; calls that are compared go by turns.
 
 use crate::clock::core_time;
-use crate::optimised::{Optimised, Savings};
+use crate::optimised::Optimised;
 use crate::plain::Plain;
 use crate::textures::Texture;
 use crate::versions::{Literal, Proved, Version};
@@ -42,12 +42,8 @@ struct Timed {
 
 impl Timed {
     fn new<V: Version + 'static>(width: usize, height: usize) -> Self {
-        Timed::of(V::new(width, height), width, height)
-    }
-
-    fn of(version: impl Version + 'static, width: usize, height: usize) -> Self {
         Timed {
-            version: Box::new(version),
+            version: Box::new(V::new(width, height)),
             planes: [(); 3].map(|()| vec![-1; width * height]),
             speeds: Vec::new(),
         }
@@ -91,48 +87,20 @@ pub fn develop_speeds(
     versions.map(|timed| Spread::of(timed.speeds))
 }
 
-/// Nanoseconds a site, the best of several runs by turns.
-fn best_costs<const N: usize>(mut versions: [Timed; N], mosaic: &[u16], runs: usize) -> [f64; N] {
-    for _ in 0..runs {
-        for timed in &mut versions {
-            timed.run(mosaic);
-        }
-    }
-    versions.map(|timed| 1e3 / Spread::of(timed.speeds).best)
-}
-
-/// What the costs of `structure_costs` are of.
-pub const STRUCTURES: [&str; 4] = [
-    "optimised unproved",
-    "without rings",
-    "and with rows loaded anew",
-    "proved",
-];
-
-/// Nanoseconds a site of the optimised version, of what it costs without its savings, and of the proved version.
-pub fn structure_costs(texture: Texture, side: usize, runs: usize) -> [f64; 4] {
-    let with = |rings, loads_once| {
-        let savings = Savings { rings, loads_once };
-        Timed::of(Optimised::with(savings, side, side), side, side)
-    };
-    let versions = [
-        with(true, true),
-        with(false, true),
-        with(false, false),
-        Timed::new::<Proved>(side, side),
-    ];
-    best_costs(versions, &texture.mosaic(side, side), runs)
-}
-
 /// Nanoseconds a site of the proved and the optimised version on noise, the best of several runs.
 pub fn site_costs(width: usize, height: usize) -> [f64; 2] {
     let mosaic = Texture::Noise.mosaic(width, height);
-    let versions = [
+    let mut versions = [
         Timed::new::<Proved>(width, height),
         Timed::new::<Optimised>(width, height),
     ];
     let runs = ((1 << 25) / mosaic.len()).clamp(5, 200);
-    best_costs(versions, &mosaic, runs)
+    for _ in 0..runs {
+        for timed in &mut versions {
+            timed.run(&mosaic);
+        }
+    }
+    versions.map(|timed| 1e3 / Spread::of(timed.speeds).best)
 }
 
 /// Megabytes of the frame file a second, of write and of read.

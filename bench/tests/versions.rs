@@ -3,7 +3,7 @@
 #[path = "../../tests/reference/tests/common/mod.rs"]
 mod common;
 
-use bench::optimised::{Optimised, Savings};
+use bench::optimised::Optimised;
 use bench::plain::Plain;
 use bench::versions::Version;
 use common::{developed, frame, frame_of_sides, Developed, Generator, Kind, KINDS};
@@ -99,23 +99,4 @@ fn optimised_on_every_small_size_and_phase() {
 #[test]
 fn optimised_with_used_buffers() {
     compare_with_used_buffers::<Optimised>(76);
-}
-
-/// Each saving can be left out.
-#[test]
-fn optimised_without_its_savings() {
-    let seed = 77;
-    let mut generator = Generator::new(seed);
-    for _ in 0..300 {
-        let kind = generator.one_of(&KINDS);
-        let frame = frame(&mut generator, kind, 40);
-        for (rings, loads_once) in [(false, false), (false, true), (true, false)] {
-            let savings = Savings { rings, loads_once };
-            let mut version = Optimised::with(savings, frame.width, frame.height);
-            assert!(
-                planes_of(&mut version, &frame) == developed(&frame),
-                "{frame:?}"
-            );
-        }
-    }
 }

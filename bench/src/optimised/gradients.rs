@@ -76,13 +76,13 @@ pub struct Gradients {
 }
 
 impl Gradients {
-    pub fn new(width: usize, kept: usize) -> Self {
+    pub fn new(width: usize) -> Self {
         Gradients {
             width,
-            row_pairs: HalfRows::new(width, kept),
+            row_pairs: HalfRows::new(width),
             column_pairs: [(); 2].map(|()| half_row(width)),
-            east: HalfRows::new(width, kept),
-            south: HalfRows::new(width, kept),
+            east: HalfRows::new(width),
+            south: HalfRows::new(width),
         }
     }
 

@@ -1,9 +1,12 @@
-//! Half rows, kept in rings of rows. A half row holds every second column of a row: entry MARGIN + k of the half of parity p is column 2·k + p. On each
-//! side of the frame's columns stand MARGIN reflected ones.
+//! Half rows, kept in rings of rows. A half row holds every second column of a row: entry MARGIN + k of the half of parity p is column
+//! 2·k + p. On each side of the frame's columns stand MARGIN reflected ones.
 
 use crate::sites::reflected;
 
 pub const MARGIN: usize = 4;
+
+/// Rows that a ring holds: the sweep reads none that lies further back.
+const RING: usize = 16;
 
 /// How many columns of a row have the parity.
 pub fn columns(width: usize, parity: usize) -> usize {
@@ -28,26 +31,23 @@ pub fn part_mut<T>(half: &mut [T], first: isize, count: usize) -> &mut [T] {
 
 pub struct HalfRows<T> {
     width: usize,
-    /// Rows that the ring holds.
-    kept: usize,
     /// Entries of a half row.
     length: usize,
     entries: Vec<T>,
 }
 
 impl<T: Copy + Default> HalfRows<T> {
-    pub fn new(width: usize, kept: usize) -> Self {
+    pub fn new(width: usize) -> Self {
         let length = columns(width, 0) + 2 * MARGIN;
         HalfRows {
             width,
-            kept,
             length,
-            entries: vec![T::default(); 2 * kept * length],
+            entries: vec![T::default(); 2 * RING * length],
         }
     }
 
     fn start(&self, row: isize, parity: usize) -> usize {
-        (row.rem_euclid(self.kept as isize) as usize * 2 + parity) * self.length
+        (row.rem_euclid(RING as isize) as usize * 2 + parity) * self.length
     }
 
     pub fn half(&self, row: isize, parity: usize) -> &[T] {

@@ -13,18 +13,6 @@ use crate::sites::Sites;
 use gradients::Gradients;
 use half_rows::{half_row, HalfRows};
 
-/// Rows that a ring holds: the sweep reads none that lies further back.
-const RING: usize = 16;
-
-/// What the sweep spares. Without them it does as the proved one.
-#[derive(Clone, Copy)]
-pub struct Savings {
-    /// Rows are kept in rings that stay in the cache, and not all rows of the frame.
-    pub rings: bool,
-    /// A row of the mosaic is loaded once and its a formed once, and not for each row that reads them.
-    pub loads_once: bool,
-}
-
 /// How many rows each stage lies behind the row that is loaded.
 const FIRST: isize = 4;
 const SECOND: isize = 10;
@@ -36,7 +24,6 @@ const OUT: isize = 14;
 pub struct Optimised {
     width: usize,
     height: usize,
-    savings: Savings,
     samples: HalfRows<u16>,
     gradients: Gradients,
     /// r_H, r_V and r_D
@@ -54,27 +41,17 @@ pub struct Optimised {
 
 impl Optimised {
     pub fn new(width: usize, height: usize) -> Self {
-        let savings = Savings {
-            rings: true,
-            loads_once: true,
-        };
-        Optimised::with(savings, width, height)
-    }
-
-    pub fn with(savings: Savings, width: usize, height: usize) -> Self {
-        let kept = if savings.rings { RING } else { height + RING };
         Optimised {
             width,
             height,
-            savings,
-            samples: HalfRows::new(width, kept),
-            gradients: Gradients::new(width, kept),
-            across: HalfRows::new(width, kept),
-            down: HalfRows::new(width, kept),
-            both: HalfRows::new(width, kept),
-            differences: HalfRows::new(width, kept),
-            own: HalfRows::new(width, kept),
-            other: HalfRows::new(width, kept),
+            samples: HalfRows::new(width),
+            gradients: Gradients::new(width),
+            across: HalfRows::new(width),
+            down: HalfRows::new(width),
+            both: HalfRows::new(width),
+            differences: HalfRows::new(width),
+            own: HalfRows::new(width),
+            other: HalfRows::new(width),
             filled: [(); 4].map(|()| half_row(width)),
         }
     }
@@ -95,9 +72,6 @@ impl Optimised {
                 self.gradients.form_pairs(&self.samples, row);
             }
             if let Some(row) = due(FIRST) {
-                if !self.savings.loads_once {
-                    self.load_around(sites, row, mosaic);
-                }
                 self.gradients.form(sites, &self.samples, row);
                 self.run_first_pass(sites, row);
             }

@@ -51,16 +51,6 @@ impl Optimised {
         self.samples.reflect(row, 1);
     }
 
-    /// Loads again all rows that E and S of a row need, and forms a of three of them.
-    pub(super) fn load_around(&mut self, sites: Sites, row: isize, mosaic: &[u16]) {
-        for row in (row - 2..=row + 4).map(|row| sites.reflected_row(row)) {
-            self.load(row, &mosaic[sites.of_row(row)]);
-        }
-        for row in (row - 1..=row + 1).map(|row| sites.reflected_row(row)) {
-            self.gradients.form_pairs(&self.samples, row);
-        }
-    }
-
     pub(super) fn run_first_pass(&mut self, sites: Sites, row: isize) {
         let parity = sites.first_chroma(row);
         let count = columns(sites.width, parity);
