@@ -14,7 +14,7 @@ use Rattle.method.specs.Four.{directions, sizes}
 use Rattle.method.specs.Planes.{weighted-mean, diagonally, corners, corner-gradients, chroma-site-difference}
 use Rattle.method.specs.Sizes.{At-most, around-size, final-difference-size}
 use Rattle.positions.specs.Taken.{Taken}
-use Rattle.positions.specs.Rings.{ring-row}
+use Rattle.positions.specs.Rings.{place-in-ring}
 use Rattle.positions.specs.RingLaws.{ring-end}
 use Rattle.positions.specs.Near.{near-north, near-south}
 use Rattle.positions.specs.HalfRows.{chroma-start, half-count, chroma-count, chroma-row, Half}
@@ -44,7 +44,7 @@ reach-of W c k h l = omega arith
 -- a row one off, copied and mirrored
 pub record Row-one-off (f : Frame) (c r rest : ℕ) (work copied row : List ℤ) : Type 0 where
   pub copied-row : Entries (pos 0) 2064 4 (rest + 4)
-      (λ (x : ℕ). getD work (ring-row r * record-size (f .width) + final-part (f .width) + (x - 4)) (pos 0)) copied
+      (λ (x : ℕ). getD work (place-in-ring r * record-size (f .width) + final-part (f .width) + (x - 4)) (pos 0)) copied
   pub mirrored-row : Entries (pos 0) 2064 (4 - 1) (half-count (f .width) (1 - c) + 4 + 1)
       (λ (x : ℕ). getD copied (source-entry (f .width) (1 - c) x) (pos 0)) row
 
@@ -66,10 +66,10 @@ module _ {f : Frame} {i base c count : ℕ} {tops work : List ℤ} (lent : Lent 
   pub rest-few : f .width - count ≤ 2048
   rest-few = omega (arith, rest-small (f .width) c low (lent .taken .wide) (lent .taken .narrow))
 
-  pub rest-room : (r : ℕ) {at : ℕ} → r < f .height → at ≡ ring-row r * record-size (f .width) + final-part (f .width) → at + (f .width - count) ≤ length work
+  pub rest-room : (r : ℕ) {at : ℕ} → r < f .height → at ≡ place-in-ring r * record-size (f .width) + final-part (f .width) → at + (f .width - count) ≤ length work
   rest-room r h e = omega (arith, rest-half (f .width) c low, lent .taken .wide, lent .work-size, ring-end (f .height) (record-size (f .width)) r h)
 
-pub row-one-off : {f : Frame} {c r rest at : ℕ} {work copied row : List ℤ} → at ≡ ring-row r * record-size (f .width) + final-part (f .width)
+pub row-one-off : {f : Frame} {c r rest at : ℕ} {work copied row : List ℤ} → at ≡ place-in-ring r * record-size (f .width) + final-part (f .width)
     → Entries (pos 0) 2064 4 (rest + 4) (λ (x : ℕ). getD work (at + (x - 4)) (pos 0)) copied
     → Entries (pos 0) 2064 (4 - 1) (half-count (f .width) (1 - c) + 4 + 1) (λ (x : ℕ). getD copied (source-entry (f .width) (1 - c) x) (pos 0)) row
     → Row-one-off f c r rest work copied row
@@ -108,8 +108,8 @@ module _ {f : Frame} {i base c count above below : ℕ} {tops work n copied-up u
       → Row-one-off f c r (f .width - count) work copied l → Half (f .width) (1 - c) (4 - 1) (half-count (f .width) (1 - c) + 4 + 1) (finals f r) l
   half r {copied} {l} a b par one =
       mirrored (f .width) (1 - c) (taken .wide) (omega arith) (4 - 1) (half-count (f .width) (1 - c) + 4 + 1) (finals f r) copied l
-      (half-of-row f ring-row (record-size (f .width)) (final-part (f .width)) (i - 1) (min (i + 2) (f .height)) (finals f) work (taken .wide) (row .held)
-      r (1 - c) (ring-row r * record-size (f .width) + final-part (f .width)) (f .width - count) copied a b
+      (half-of-row f place-in-ring (record-size (f .width)) (final-part (f .width)) (i - 1) (min (i + 2) (f .height)) (finals f) work (taken .wide) (row .held)
+      r (1 - c) (place-in-ring r * record-size (f .width) + final-part (f .width)) (f .width - count) copied a b
       (ap (λ (x : ℕ). 1 - x) (row .gradient-row .start) ∙ sym (chroma-odd (f .phase) i r par)) rest-is refl (one .copied-row))
       (one .mirrored-row)
 
@@ -170,7 +170,7 @@ module _ {f : Frame} {i base c count above below : ℕ} {tops work n copied-up u
   pub corner-values-fit : Values-fit 4092 count (corners-read up down c)
   corner-values-fit = record { each = values-small }
 
-  module _ (east south : ℕ) (e : east ≡ ring-row i * record-size (f .width)) (s : south ≡ ring-row i * record-size (f .width) + south-part (f .width)) (m : List ℤ)
+  module _ (east south : ℕ) (e : east ≡ place-in-ring i * record-size (f .width)) (s : south ≡ place-in-ring i * record-size (f .width) + south-part (f .width)) (m : List ℤ)
       (means : Entries (pos 0) 2064 4 (count + 4) (λ (x : ℕ). corner-mean-read work east south n up down c (x - 4)) m) where
     other-is : (k : ℕ) → k < count → getD m (k + 4) (pos 0) ≡ others f i (c + 2 * k)
     unfolding others chroma-site-difference finals mosaic

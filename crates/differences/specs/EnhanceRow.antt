@@ -19,7 +19,7 @@ use Rattle.method.specs.Sizes.{At-most, around-size, green-difference-size, mea
 use Rattle.positions.specs.Taken.{Taken}
 use Rattle.positions.specs.Places.{plane-row}
 use Rattle.positions.specs.Near.{near-north, near-south}
-use Rattle.positions.specs.Rings.{ring-row}
+use Rattle.positions.specs.Rings.{place-in-ring}
 use Rattle.positions.specs.HalfRows.{chroma-start, half-count, chroma-count, chroma-row, Half}
 use Rattle.positions.specs.HalfRowLaws.{count-high}
 use Rattle.records.specs.Held.{Held}
@@ -163,7 +163,7 @@ module _ {f : Frame} {i base c count below above : ℕ} {tops work green n copie
   pub differences-fit : Half-fit 8192 count l
   differences-fit = record { each = λ k h. le-trans (D-small k h) (lit≤ tt) }
 
-  module _ (east south : ℕ) (e : east ≡ ring-row i * record-size (f .width)) (s : south ≡ ring-row i * record-size (f .width) + south-part (f .width)) (m : List ℤ)
+  module _ (east south : ℕ) (e : east ≡ place-in-ring i * record-size (f .width)) (s : south ≡ place-in-ring i * record-size (f .width) + south-part (f .width)) (m : List ℤ)
       (means : Entries (pos 0) 2064 4 (count + 4)
       (λ (x : ℕ). straight-mean-read work east south n l green (below * f .width) (above * f .width) (x - 4)) m) where
     mean-at : (k : ℕ) → k < count → getD m (k + 4) (pos 0) ≡ straight-mean-read work east south n l green (below * f .width) (above * f .width) k

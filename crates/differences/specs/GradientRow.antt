@@ -10,7 +10,7 @@ use Rattle.frame.specs.Sites.{Frame}
 use Rattle.method.specs.Gradients.{FourDirections, mosaic, gradients-at}
 use Rattle.method.specs.Four.{directions, sizes, listed}
 use Rattle.method.specs.Sizes.{listed-naturals}
-use Rattle.positions.specs.Rings.{ring-row}
+use Rattle.positions.specs.Rings.{place-in-ring}
 use Rattle.positions.specs.HalfRows.{chroma-start, half-count, chroma-count}
 use Rattle.positions.specs.HalfRowLaws.{chroma-small, count-column, count-high, count-half, count-most}
 use Rattle.records.specs.Layout.{record-size, south-part, final-part, other-part}
@@ -43,10 +43,10 @@ module _ {f : Frame} {i base c count : ℕ} {tops work : List ℤ} (lent : Lent 
   pub sites-inside : 0 + count ≤ f .width
   sites-inside = omega (arith, count-high (f .width) c)
 
-  pub final-room : {at : ℕ} → at ≡ ring-row i * record-size (f .width) + final-part (f .width) → at + count ≤ length work
+  pub final-room : {at : ℕ} → at ≡ place-in-ring i * record-size (f .width) + final-part (f .width) → at + count ≤ length work
   final-room e = omega (arith, count-half (f .width) c, lent .taken .wide, record-end f i base tops work lent)
 
-  pub other-room : {at : ℕ} → at ≡ ring-row i * record-size (f .width) + other-part (f .width) → at + count ≤ length work
+  pub other-room : {at : ℕ} → at ≡ place-in-ring i * record-size (f .width) + other-part (f .width) → at + count ≤ length work
   other-room e = omega (arith, count-half (f .width) c, lent .taken .wide, record-end f i base tops work lent)
 
 module _ {f : Frame} {i base c count : ℕ} {tops work n : List ℤ} (row : Gradient-row f i base c count tops work n) where
@@ -62,7 +62,7 @@ module _ {f : Frame} {i base c count : ℕ} {tops work n : List ℤ} (row : Grad
   pub site-inside : (k : ℕ) → k < count → c + 2 * k < f .width
   site-inside k h = count-column (f .width) c k start-small (omega (arith, row .sites))
 
-  module _ (east south : ℕ) (e : east ≡ ring-row i * record-size (f .width)) (s : south ≡ ring-row i * record-size (f .width) + south-part (f .width)) where
+  module _ (east south : ℕ) (e : east ≡ place-in-ring i * record-size (f .width)) (s : south ≡ place-in-ring i * record-size (f .width) + south-part (f .width)) where
     four-are : (k : ℕ) → k < count → four-entries work east south n k ≡ listed (gradients-at (mosaic f) i (c + 2 * k))
     four-are k h =
         site-gradients-first f i tops work (row .gradients) n east south count 0 k e s count-is refl (row .north-row) (omega (arith, count-is))

@@ -10,7 +10,7 @@ use Rattle.toolkit.specs.Writes.{Wrote, wrote-as, wrote-then}
 use Rattle.frame.specs.Sites.{Frame}
 use Rattle.positions.specs.HalfRows.{chroma-start, half-count, chroma-count}
 use Rattle.positions.specs.HalfRowLaws.{chroma-small, count-high}
-use Rattle.positions.specs.Rings.{ring-row}
+use Rattle.positions.specs.Rings.{place-in-ring}
 use Rattle.positions.specs.RingLaws.{ring-end}
 use Rattle.records.specs.Layout.{record-size}
 use Rattle.records.specs.Quantities.{wests, east-entry}
@@ -64,7 +64,7 @@ count-in-row f c n e = omega (arith, count-high (f .width) c)
 
 -- the record of row i has room for both halves
 pub halves-room : (f : Frame) (i c n to size : ℕ) → 2 ≤ f .width → i < f .height → n ≡ half-count (f .width) c
-    → to ≡ ring-row i * record-size (f .width) → size ≡ f .height * record-size (f .width)
+    → to ≡ place-in-ring i * record-size (f .width) → size ≡ f .height * record-size (f .width)
     → (to + (n + 1) ≤ size) × (to + n + 1 + (f .width - n + 1) ≤ size)
 halves-room f i c n to size w h e p q =
     let end = ring-end (f .height) (4 * f .width) i h in
@@ -73,7 +73,7 @@ halves-room f i c n to size w h e p q =
 
 -- both halves, one behind the other
 module _ (f : Frame) (i : ℕ) (at rows alongs : List ℕ) (reads : East-reads f i at rows alongs) (c n to : ℕ)
-    (start : c ≡ chroma-start (f .phase) i) (count : n ≡ half-count (f .width) c) (place : to ≡ ring-row i * record-size (f .width))
+    (start : c ≡ chroma-start (f .phase) i) (count : n ≡ half-count (f .width) c) (place : to ≡ place-in-ring i * record-size (f .width))
     (gradients : List ℤ) (formed : Entries (pos 0) 4112 6 (f .width + 8)
     (λ (k : ℕ). pos (east-at rows alongs (getD at 1 0) (getD at 2 0) (getD at 3 0) k)) gradients) where
   small : c ≤ 1

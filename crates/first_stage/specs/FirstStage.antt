@@ -9,7 +9,7 @@ use Rattle.frame.specs.Sites.{Frame, frame}
 use Rattle.frame.specs.declared.Shape.{Shape}
 use Rattle.method.specs.Green.{Direction, vertical, diagonal}
 use Rattle.positions.specs.HalfRows.{chroma-start}
-use Rattle.positions.specs.Rings.{ring-row}
+use Rattle.positions.specs.Rings.{place-in-ring}
 use Rattle.records.specs.Quantities.{trials}
 use Rattle.records.specs.Stages.{Gradients, Lent, First-reads, Tops-stored, Gradients-stored, Chroma-stored}
 use Rattle.mosaic_rows.specs.LoadedRows.{Row-stored, Seven}
@@ -20,12 +20,12 @@ use Rattle.east_rows.specs.EastRows.{East-reads}
 -- a of the rows from lo to hi − 1 stands at their places, as it is formed of the rows
 pub record Sums-kept (f : Frame) (lo hi : ℕ) (rows alongs : List ℕ) : Type 0 where
   pub size : length alongs ≡ 98688
-  pub row : (r : ℕ) → lo ≤ r → r < hi → Summed (f .width) (ring-row r * 4112) rows alongs
+  pub row : (r : ℕ) → lo ≤ r → r < hi → Summed (f .width) (place-in-ring r * 4112) rows alongs
 
 -- row i and its a are stored at their places
 pub record Line-loaded (f : Frame) (i : ℕ) (rows rows' alongs alongs' : List ℕ) : Type 0 where
-  pub row-stored : Row-stored f i (ring-row i * 4112) rows rows'
-  pub sums-stored : Wrote 0 (ring-row i * 4112 + 6) (f .width + 2) (λ (k : ℕ). along-at rows' (ring-row i * 4112 + 6 + k)) alongs alongs'
+  pub row-stored : Row-stored f i (place-in-ring i * 4112) rows rows'
+  pub sums-stored : Wrote 0 (place-in-ring i * 4112 + 6) (f .width + 2) (λ (k : ℕ). along-at rows' (place-in-ring i * 4112 + 6 + k)) alongs alongs'
 
 -- the arrays that the stage fills for itself
 pub record First-room (v : List ℕ) (gradients n a b : List ℤ) : Type 0 where

@@ -11,7 +11,7 @@ use Rattle.toolkit.specs.Writes.{Wrote, wrote-as, wrote-then}
 use Rattle.frame.specs.Sites.{Frame}
 use Rattle.positions.specs.HalfRows.{chroma-start, in-halves}
 use Rattle.positions.specs.Taken.{Taken}
-use Rattle.positions.specs.Rings.{ring-row}
+use Rattle.positions.specs.Rings.{place-in-ring}
 use Rattle.positions.specs.RingLaws.{ring-apart, ring-end}
 use Rattle.records.specs.Layout.{record-size, gradient-size, south-part, top-size}
 use Rattle.records.specs.Quantities.{norths, east-entry, gradient-entry}
@@ -25,7 +25,7 @@ use Rattle.first_stage.specs.FirstStage.{Trials-read}
 
 -- E, and S behind it
 pub gradients-stored : (f : Frame) (i at : ℕ) {old mid new : List ℤ} → East-stored f i old mid
-    → Wrote (pos 0) at (f .width) (in-halves f (norths f) (i + 2)) mid new → at ≡ ring-row i * record-size (f .width) + south-part (f .width)
+    → Wrote (pos 0) at (f .width) (in-halves f (norths f) (i + 2)) mid new → at ≡ place-in-ring i * record-size (f .width) + south-part (f .width)
     → Gradients-stored f i old new
 gradients-stored f i at {old} {mid} {new} east south e = wrote-then (wrote-as east refl first) south (omega arith) (omega arith) second
   where
@@ -39,15 +39,15 @@ module _ (f : Frame) (i : ℕ) {tops tops2 work work2 : List ℤ} (t : Taken f) 
     (top : Tops-stored f i tops tops2) (stored : Gradients-stored f i work work2) where
   -- the records before row i stay
   record-row : (r k : ℕ) → i - 2 ≤ r → r ≤ i → k < gradient-size (f .width)
-      → getD work2 (ring-row r * record-size (f .width) + 0 + k) (pos 0) ≡ gradient-entry f r k
+      → getD work2 (place-in-ring r * record-size (f .width) + 0 + k) (pos 0) ≡ gradient-entry f r k
   record-row r k l h b = by-test (eqb r i) _
       (λ e.
       let q : r ≡ i = eqb-eq r i e in
-      let p : ring-row i * record-size (f .width) + 0 + k ≡ ring-row i * record-size (f .width) + k = omega arith in
+      let p : place-in-ring i * record-size (f .width) + 0 + k ≡ place-in-ring i * record-size (f .width) + k = omega arith in
       rw q (ap (λ (x : ℕ). getD work2 x (pos 0)) p ∙ stored .inside k b))
       (λ e.
       let q : r < i = omega (arith, eqb-ne {m = r} {n = i} e) in
-      stored-elsewhere (record-size (f .width)) (ring-row i) (ring-row r) stored (omega arith) (omega (arith, t .wide))
+      stored-elsewhere (record-size (f .width)) (place-in-ring i) (place-in-ring r) stored (omega arith) (omega (arith, t .wide))
       (ring-apart r i q (omega arith)) _ (omega arith) (omega (arith, t .wide)) ∙ old .records .row r l q k b)
 
   top-row : (r k : ℕ) → r < min (i + 1) 2 → k < f .width → getD tops2 (r * top-size + 0 + k) (pos 0) ≡ in-halves f (norths f) r k
@@ -81,7 +81,7 @@ tops-size {f} {i} {old} {new} top = by-test (ltb i 2) _
 
 -- the S of row i lies in work
 pub south-room : (f : Frame) (i at : ℕ) {old work : List ℤ} → Taken f → i < f .height → length old ≡ f .height * record-size (f .width)
-    → East-stored f i old work → at ≡ ring-row i * record-size (f .width) + south-part (f .width) → at + f .width ≤ length work
+    → East-stored f i old work → at ≡ place-in-ring i * record-size (f .width) + south-part (f .width) → at + f .width ≤ length work
 south-room f i at t h e w p = omega (arith, w .size, t .wide, ring-end (f .height) (record-size (f .width)) i h)
 
 -- what the trial differences are formed from

@@ -12,7 +12,7 @@ use Rattle.method.specs.Gradients.{mosaic, gradients-at}
 use Rattle.method.specs.Four.{directions, sizes, listed}
 use Rattle.method.specs.Sizes.{listed-naturals}
 use Rattle.method.specs.Green.{Direction}
-use Rattle.positions.specs.Rings.{ring-row}
+use Rattle.positions.specs.Rings.{place-in-ring}
 use Rattle.positions.specs.HalfRows.{half-count, chroma-count, chroma-row}
 use Rattle.positions.specs.HalfRowLaws.{count-column, count-high, count-most, chroma-small}
 use Rattle.records.specs.Layout.{record-size, south-part}
@@ -38,8 +38,8 @@ lines-small f i base c count at rows tops work r e =
     (omega (arith, r .lent .taken .wide, r .start, chroma-small (f .phase) i))
 
 module _ (f : Frame) (i base c count east south : ℕ) (at rows : List ℕ) (tops work n a b : List ℤ) (r : Trials-read f i base c at rows tops work)
-    (ec : count ≡ half-count (f .width) c) (ee : east ≡ ring-row i * record-size (f .width))
-    (es : south ≡ ring-row i * record-size (f .width) + south-part (f .width))
+    (ec : count ≡ half-count (f .width) c) (ee : east ≡ place-in-ring i * record-size (f .width))
+    (es : south ≡ place-in-ring i * record-size (f .width) + south-part (f .width))
     (norths-row : Entries (pos 0) 2064 4 (count + 4) (λ (x : ℕ). north-entry tops work (f .width) i (0 + (x - 4))) n)
     (across-row : Entries (pos 0) 2064 4 (count + 4) (λ (x : ℕ). across-difference at rows (c + 2 * (x - 4) + 8)) a)
     (down-row : Entries (pos 0) 2064 4 (count + 4) (λ (x : ℕ). down-difference at rows (c + 2 * (x - 4) + 8)) b) where

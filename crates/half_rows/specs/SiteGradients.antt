@@ -14,7 +14,7 @@ use Rattle.method.specs.Four.{listed, same-four}
 use Rattle.method.specs.Sizes.{At-most, gradients-size}
 use Rattle.positions.specs.Taken.{Taken}
 use Rattle.positions.specs.Places.{room, row-end}
-use Rattle.positions.specs.Rings.{ring-row, Round}
+use Rattle.positions.specs.Rings.{place-in-ring, Round}
 use Rattle.positions.specs.RingLaws.{ring-end, round-part}
 use Rattle.positions.specs.HalfRows.{chroma-start, half-column, chroma-count, in-halves}
 use Rattle.positions.specs.HalfRowLaws.{first-half, second-half, count-high}
@@ -31,7 +31,7 @@ pub gradients-most : (f : Frame) (i j : ℕ) → Taken f → At-most 40920 (grad
 gradients-most f i j t = gradients-size f (t .tall) (t .wide) (t .ranged) i j
 
 -- the record of row i lies in work
-pub record-end : (f : Frame) (i base : ℕ) (tops work : List ℤ) → Lent f i base tops work → ring-row i * record-size (f .width) + record-size (f .width) ≤ length work
+pub record-end : (f : Frame) (i base : ℕ) (tops work : List ℤ) → Lent f i base tops work → place-in-ring i * record-size (f .width) + record-size (f .width) ≤ length work
 record-end f i base tops work l = omega (arith, l .work-size, ring-end (f .height) (record-size (f .width)) i (l .inside))
 
 pub work-most : (f : Frame) (i base : ℕ) (tops work : List ℤ) → Lent f i base tops work → length work ≤ 67108864
@@ -64,16 +64,16 @@ north-room f i base at count tops work n l inside few size = record {
 }
 
 module _ (f : Frame) (i : ℕ) (tops work : List ℤ) (g : Gradients f (i - 2) (i + 1) tops work) where
-  east-read : (a k : ℕ) → k < f .width + 2 → a ≡ ring-row i * record-size (f .width) → getD work (a + k) (pos 0) ≡ east-entry f i k
+  east-read : (a k : ℕ) → k < f .width + 2 → a ≡ place-in-ring i * record-size (f .width) → getD work (a + k) (pos 0) ≡ east-entry f i k
   east-read a k h e =
-      let p : a + k ≡ ring-row i * record-size (f .width) + 0 + k = omega arith in
+      let p : a + k ≡ place-in-ring i * record-size (f .width) + 0 + k = omega arith in
       ap (λ (x : ℕ). getD work x (pos 0)) p
       ∙ (g .records .row i (omega arith) (omega arith) k (omega arith) ∙ gradient-east f i k h)
 
-  south-read : (r a k : ℕ) → i - 2 ≤ r → r ≤ i → k < f .width → a ≡ ring-row r * record-size (f .width) + south-part (f .width)
+  south-read : (r a k : ℕ) → i - 2 ≤ r → r ≤ i → k < f .width → a ≡ place-in-ring r * record-size (f .width) + south-part (f .width)
       → getD work (a + k) (pos 0) ≡ in-halves f (souths f) r k
   south-read r a k l h b e =
-      let p : a + k ≡ ring-row r * record-size (f .width) + 0 + (south-part (f .width) + k) = omega arith in
+      let p : a + k ≡ place-in-ring r * record-size (f .width) + 0 + (south-part (f .width) + k) = omega arith in
       ap (λ (x : ℕ). getD work x (pos 0)) p
       ∙ (g .records .row r l (omega arith) (south-part (f .width) + k) (omega arith) ∙ gradient-south f r k)
 
@@ -97,15 +97,15 @@ module _ (f : Frame) (i : ℕ) (tops work : List ℤ) (g : Gradients f (i - 2) (
   -- the sites of a half row, of which S and N start at entry a of the row, E at entry b, and whose columns are c, c + 2, ..
   module _ (a b c m : ℕ) (columns : (k : ℕ) → k < m → half-column (f .width) (chroma-start (f .phase) i) (a + k) ≡ c + 2 * k)
       (easts : (k : ℕ) → k ≤ m → east-entry f i (b + k) ≡ wests f i (c + 2 * k)) (inside : a + m ≤ f .width) (room : b + m < f .width + 2) where
-    sites : (n : List ℤ) (east south count at k : ℕ) → east ≡ ring-row i * record-size (f .width) + b
-        → south ≡ ring-row i * record-size (f .width) + south-part (f .width) + a → count ≡ m → at ≡ a
+    sites : (n : List ℤ) (east south count at k : ℕ) → east ≡ place-in-ring i * record-size (f .width) + b
+        → south ≡ place-in-ring i * record-size (f .width) + south-part (f .width) + a → count ≡ m → at ≡ a
         → Entries (pos 0) 2064 4 (count + 4) (λ (x : ℕ). north-entry tops work (f .width) i (at + (x - 4))) n → k < m
         → four-entries work east south n k ≡ listed (gradients-at (mosaic f) i (c + 2 * k))
     unfolding wests in-halves souths norths
     sites n east south count at k ee es ec ea norths-row l =
-        let p1 : east + k + 1 ≡ ring-row i * record-size (f .width) + (b + (k + 1)) = omega arith in
-        let p0 : east + k ≡ ring-row i * record-size (f .width) + (b + k) = omega arith in
-        let ps : south + k ≡ ring-row i * record-size (f .width) + south-part (f .width) + (a + k) = omega arith in
+        let p1 : east + k + 1 ≡ place-in-ring i * record-size (f .width) + (b + (k + 1)) = omega arith in
+        let p0 : east + k ≡ place-in-ring i * record-size (f .width) + (b + k) = omega arith in
+        let ps : south + k ≡ place-in-ring i * record-size (f .width) + south-part (f .width) + (a + k) = omega arith in
         let pn : at + (k + 4 - 4) ≡ a + k = omega arith in
         let step : c + 2 * (k + 1) ≡ c + 2 * k + 2 = omega arith in
         same-four
@@ -118,8 +118,8 @@ module _ (f : Frame) (i : ℕ) (tops work : List ℤ) (g : Gradients f (i - 2) (
         ∙ (north-read (a + k) (omega arith) ∙ ap (λ (j : ℕ). pos (gradients-at (mosaic f) i j .north)) (columns k l))))
 
   -- the red and blue sites of row i
-  pub site-gradients-first : (n : List ℤ) (east south count at k : ℕ) → east ≡ ring-row i * record-size (f .width)
-      → south ≡ ring-row i * record-size (f .width) + south-part (f .width) → count ≡ chroma-count f i → at ≡ 0
+  pub site-gradients-first : (n : List ℤ) (east south count at k : ℕ) → east ≡ place-in-ring i * record-size (f .width)
+      → south ≡ place-in-ring i * record-size (f .width) + south-part (f .width) → count ≡ chroma-count f i → at ≡ 0
       → Entries (pos 0) 2064 4 (count + 4) (λ (x : ℕ). north-entry tops work (f .width) i (at + (x - 4))) n → k < chroma-count f i
       → four-entries work east south n k ≡ listed (gradients-at (mosaic f) i (chroma-start (f .phase) i + 2 * k))
   unfolding chroma-count
@@ -134,8 +134,8 @@ module _ (f : Frame) (i : ℕ) (tops work : List ℤ) (g : Gradients f (i - 2) (
       zero-first x = omega arith
 
   -- its green sites
-  pub site-gradients-second : (n : List ℤ) (east south count at k : ℕ) → east ≡ ring-row i * record-size (f .width) + (chroma-count f i + 1)
-      → south ≡ ring-row i * record-size (f .width) + south-part (f .width) + chroma-count f i → count ≡ f .width - chroma-count f i → at ≡ chroma-count f i
+  pub site-gradients-second : (n : List ℤ) (east south count at k : ℕ) → east ≡ place-in-ring i * record-size (f .width) + (chroma-count f i + 1)
+      → south ≡ place-in-ring i * record-size (f .width) + south-part (f .width) + chroma-count f i → count ≡ f .width - chroma-count f i → at ≡ chroma-count f i
       → Entries (pos 0) 2064 4 (count + 4) (λ (x : ℕ). north-entry tops work (f .width) i (at + (x - 4))) n → k < f .width - chroma-count f i
       → four-entries work east south n k ≡ listed (gradients-at (mosaic f) i (1 - chroma-start (f .phase) i + 2 * k))
   unfolding chroma-count

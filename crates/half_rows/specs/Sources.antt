@@ -7,7 +7,7 @@ use lib.Dec.{ltb}
 use lib.IntN.{ℤ, pos}
 use lib.ListN.{length, getD}
 use Rattle.positions.specs.Columns.{column-at}
-use Rattle.positions.specs.Rings.{ring-row, Round}
+use Rattle.positions.specs.Rings.{place-in-ring, Round}
 use Rattle.records.specs.Layout.{record-size, south-part, top-size}
 
 -- the entry of a half row that holds the column of entry x, reflected
@@ -17,7 +17,7 @@ source-entry W c x = (column-at W (c + 2 * x) - c) / 2 + 4
 -- entry k of N of row i, in halves: that of S of row i − 2, and for the rows 0 and 1 that of tops
 unfoldable pub north-entry : List ℤ → List ℤ → ℕ → ℕ → ℕ → ℤ
 north-entry tops work W i k =
-    cond (ltb i 2) (getD tops (i * top-size + k) (pos 0)) (getD work (ring-row (i - 2) * record-size W + south-part W + k) (pos 0))
+    cond (ltb i 2) (getD tops (i * top-size + k) (pos 0)) (getD work (place-in-ring (i - 2) * record-size W + south-part W + k) (pos 0))
 
 -- E, W, S, N of site k of a half row: its E stands from entry east on, two columns west, its S from entry south on, its N in n
 abbrev pub four-entries : List ℤ → ℕ → ℕ → List ℤ → ℕ → List ℤ

@@ -10,7 +10,7 @@ use Rattle.positions.specs.Columns.{column-at}
 use Rattle.positions.specs.ColumnLaws.{column-lt}
 use Rattle.positions.specs.Places.{plane-row}
 use Rattle.positions.specs.Taken.{Taken}
-use Rattle.positions.specs.Rings.{ring-row}
+use Rattle.positions.specs.Rings.{place-in-ring}
 use Rattle.positions.specs.RingLaws.{ring-small}
 use Rattle.mosaic_rows.specs.LoadedRows.{Row-stored, Loaded, near-row, near-entry, near-entries, Seven}
 
@@ -57,7 +57,7 @@ near-at H x (suc (suc (suc (suc (suc (suc zero)))))) h = refl
 near-at H x (suc (suc (suc (suc (suc (suc (suc p))))))) h = absurd (omega arith)
 
 pub seven-loaded : {f : Frame} {x : ℕ} {rows : List ℕ} → length rows ≡ 98688
-    → ((p : ℕ) → p < 7 → Loaded f (near-row (f .height) x p) (ring-row (near-row (f .height) x p) * 4112) rows)
+    → ((p : ℕ) → p < 7 → Loaded f (near-row (f .height) x p) (place-in-ring (near-row (f .height) x p) * 4112) rows)
     → Seven f x (near-entries (f .height) x) rows
 unfolding near-entry
 seven-loaded {f} {x} {rows} size row = record {

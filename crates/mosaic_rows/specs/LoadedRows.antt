@@ -7,7 +7,7 @@ use lib.ListN.{length, getD}
 use Rattle.toolkit.specs.Writes.{Wrote}
 use Rattle.frame.specs.Sites.{Frame, sample, reflect}
 use Rattle.positions.specs.Columns.{column-at}
-use Rattle.positions.specs.Rings.{ring-row, Round}
+use Rattle.positions.specs.Rings.{place-in-ring, Round}
 
 -- row i is stored from entry to on, the rest is as it was
 abbrev pub Row-stored : Frame → ℕ → ℕ → List ℕ → List ℕ → Type 0
@@ -27,7 +27,7 @@ pub record Near-rows (H x base : ℕ) : Type 0 where
 
 -- where they stand
 unfoldable pub near-entry : ℕ → ℕ → ℕ → ℕ
-near-entry H x p = ring-row (near-row H x p) * 4112
+near-entry H x p = place-in-ring (near-row H x p) * 4112
 
 abbrev pub near-entries : ℕ → ℕ → List ℕ
 near-entries H x =

@@ -7,7 +7,7 @@ ghost use Rattle.toolkit.specs.Writes.{Wrote};
 ghost use Rattle.frame.specs.Sites.{frame};
 ghost use Rattle.positions.specs.Columns.{column-at};
 ghost use Rattle.positions.specs.Taken.{Taken};
-ghost use Rattle.positions.specs.Rings.{ring-row, Round};
+ghost use Rattle.positions.specs.Rings.{place-in-ring, Round};
 ghost use Rattle.mosaic_rows.specs.LoadedRows.{Row-stored, Near-rows, near-entry, near-entries};
 
 // The w samples from entry at on, as the columns of the row at entry to.
@@ -51,7 +51,7 @@ pub fn load(mosaic: &[u16], shape: Shape, i: usize, rows: &mut [u16; 98688], to:
 // Where row i stands; base is a row at place 0.
 pub fn row_at(i: usize, base: usize) -> usize
     requires { ⌜ (i ≤ 4096) × (Round base i i) ⌝ }
-    ensures { λ r. ⌜ (r ≡ ring-row i * 4112) × (r + 4112 ≤ 98688) ⌝ }
+    ensures { λ r. ⌜ (r ≡ place-in-ring i * 4112) × (r + 4112 ≤ 98688) ⌝ }
 {
     positions::ring_place(i, base) * 4112
 }

@@ -4,7 +4,7 @@ use Prim.Native.Nat.{ℕ, _+_, _*_, _-_, _<_, _≤_}
 use lib.IntN.{pos, subℕ}
 use Rattle.frame.specs.Sites.{reflect}
 use Rattle.frame.specs.declared.Shape.{Shape}
-use Rattle.positions.specs.Rings.{ring-row}
+use Rattle.positions.specs.Rings.{place-in-ring}
 use Rattle.positions.specs.HalfRows.{chroma-start, half-count}
 use Rattle.records.specs.Layout.{record-size, south-part, final-part, other-part}
 use Rattle.out_rows.specs.declared.Places.{Places}
@@ -23,11 +23,11 @@ pub record Placed (shape : Shape) (i : ℕ) (p : Places) : Type 0 where
   pub start-is : p .start ≡ chroma-start (shape .phase) i
   pub count-is : p .count ≡ half-count (shape .width) (p .start)
   pub rest-is : p .rest ≡ shape .width - p .count
-  pub east-is : p .east ≡ ring-row i * record-size (shape .width) + (p .count + 1)
-  pub south-is : p .south ≡ ring-row i * record-size (shape .width) + south-part (shape .width) + p .count
-  pub finals-is : p .here .finals ≡ ring-row i * record-size (shape .width) + final-part (shape .width)
-  pub others-is : p .here .others ≡ ring-row i * record-size (shape .width) + other-part (shape .width)
-  pub finals-south-is : p .below .finals ≡ ring-row (reflect (shape .height) (pos (i + 1))) * record-size (shape .width) + final-part (shape .width)
-  pub finals-north-is : p .above .finals ≡ ring-row (reflect (shape .height) (subℕ i 1)) * record-size (shape .width) + final-part (shape .width)
-  pub others-south-is : p .below .others ≡ ring-row (reflect (shape .height) (pos (i + 1))) * record-size (shape .width) + other-part (shape .width)
-  pub others-north-is : p .above .others ≡ ring-row (reflect (shape .height) (subℕ i 1)) * record-size (shape .width) + other-part (shape .width)
+  pub east-is : p .east ≡ place-in-ring i * record-size (shape .width) + (p .count + 1)
+  pub south-is : p .south ≡ place-in-ring i * record-size (shape .width) + south-part (shape .width) + p .count
+  pub finals-is : p .here .finals ≡ place-in-ring i * record-size (shape .width) + final-part (shape .width)
+  pub others-is : p .here .others ≡ place-in-ring i * record-size (shape .width) + other-part (shape .width)
+  pub finals-south-is : p .below .finals ≡ place-in-ring (reflect (shape .height) (pos (i + 1))) * record-size (shape .width) + final-part (shape .width)
+  pub finals-north-is : p .above .finals ≡ place-in-ring (reflect (shape .height) (subℕ i 1)) * record-size (shape .width) + final-part (shape .width)
+  pub others-south-is : p .below .others ≡ place-in-ring (reflect (shape .height) (pos (i + 1))) * record-size (shape .width) + other-part (shape .width)
+  pub others-north-is : p .above .others ≡ place-in-ring (reflect (shape .height) (subℕ i 1)) * record-size (shape .width) + other-part (shape .width)

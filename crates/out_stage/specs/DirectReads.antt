@@ -17,7 +17,7 @@ use Rattle.method.specs.ColourLaws.{directions-path}
 use Rattle.method.specs.Planes.{weighted-mean, colour-difference}
 use Rattle.method.specs.Sizes.{At-most, listed-naturals}
 use Rattle.positions.specs.Taken.{Taken}
-use Rattle.positions.specs.Rings.{ring-row}
+use Rattle.positions.specs.Rings.{place-in-ring}
 use Rattle.positions.specs.RingLaws.{ring-end}
 use Rattle.positions.specs.HalfRows.{chroma-start, half-count, chroma-count, chroma-row}
 use Rattle.positions.specs.HalfRowLaws.{chroma-small, count-high, count-half, rest-half}
@@ -77,7 +77,7 @@ module _ (shape : Shape) (zs : List ℕ) (i : ℕ) (p : Places) (placed : Placed
     taken = lent .taken
 
     -- the record of any row lies in work
-    row-room : (r : ℕ) → r < shape .height → ring-row r * record-size (shape .width) + record-size (shape .width) ≤ length work
+    row-room : (r : ℕ) → r < shape .height → place-in-ring r * record-size (shape .width) + record-size (shape .width) ≤ length work
     row-room r h = omega (arith, lent .work-size, ring-end (shape .height) (record-size (shape .width)) r h)
 
     in-frame : (x : ℤ) → reflect (shape .height) x < shape .height
@@ -85,18 +85,18 @@ module _ (shape : Shape) (zs : List ℕ) (i : ℕ) (p : Places) (placed : Placed
 
     -- the differences of the row itself
     pub finals-inside : p .here .finals + p .count ≤ length work
-    finals-inside = rw (placed .finals-is) (final-room (shape .width) (p .count) _ (ring-row i) (taken .wide) count-room (row-room i (lent .inside)))
+    finals-inside = rw (placed .finals-is) (final-room (shape .width) (p .count) _ (place-in-ring i) (taken .wide) count-room (row-room i (lent .inside)))
 
     pub others-inside : p .here .others + p .count ≤ length work
-    others-inside = rw (placed .others-is) (other-room (shape .width) (p .count) _ (ring-row i) (taken .wide) count-room (row-room i (lent .inside)))
+    others-inside = rw (placed .others-is) (other-room (shape .width) (p .count) _ (place-in-ring i) (taken .wide) count-room (row-room i (lent .inside)))
 
     -- the values beside green site k, of q in row i and of q' in the rows one off, read from entry o of their records on
     beside-are : (q q' : ℕ → ℕ → ℤ) (row : List ℤ) (o south north k : ℕ)
         → Wide-half (shape .width) p (q i) row
         → Kept (record-size (shape .width)) o (chroma-count (frame shape zs)) (i - 1) (min (i + 2) (shape .height))
         (chroma-row (frame shape zs) q') work
-        → south ≡ ring-row (reflect (shape .height) (pos (i + 1))) * record-size (shape .width) + o
-        → north ≡ ring-row (reflect (shape .height) (subℕ i 1)) * record-size (shape .width) + o → k < p .rest
+        → south ≡ place-in-ring (reflect (shape .height) (pos (i + 1))) * record-size (shape .width) + o
+        → north ≡ place-in-ring (reflect (shape .height) (subℕ i 1)) * record-size (shape .width) + o → k < p .rest
         → directions (beside-values row (p .start) work south north k) ≡
         four-beside (frame shape zs) q q' i (1 - chroma-start (shape .phase) i + 2 * k)
     beside-are q q' row o south north k half held es en l =
@@ -112,10 +112,10 @@ module _ (shape : Shape) (zs : List ℕ) (i : ℕ) (p : Places) (placed : Placed
         (omega (arith, start-small)) room here (east-step (p .start) (chroma-start (shape .phase) i) k (placed .start-is) start-small))
         (half-around H W (p .start) 3 (half-count W (p .start) + 4 + 1) q row i half (k + 4 - p .start) i j (pos 0) (negℤ (pos 1))
         (omega (arith, start-small)) (omega arith) here (west-step (p .start) (chroma-start (shape .phase) i) k (placed .start-is) start-small))
-        (row-near-odd (frame shape zs) ring-row (record-size W) o (i - 1) (min (i + 2) H) q' work (taken .wide) held
+        (row-near-odd (frame shape zs) place-in-ring (record-size W) o (i - 1) (min (i + 2) H) q' work (taken .wide) held
         (reflect H (pos (i + 1))) i k south (pos 1) refl (s .0) (omega (arith, s .1, s .2))
         (south-odd H i (taken .tall)) (omega (arith, rest-green)) es)
-        (row-near-odd (frame shape zs) ring-row (record-size W) o (i - 1) (min (i + 2) H) q' work (taken .wide) held
+        (row-near-odd (frame shape zs) place-in-ring (record-size W) o (i - 1) (min (i + 2) H) q' work (taken .wide) held
         (reflect H (subℕ i 1)) i k north (negℤ (pos 1)) (ap (reflect H) (north-step i 1)) (u .0) (omega (arith, u .1, u .2))
         (north-odd H i (taken .tall)) (omega (arith, rest-green)) en)
 
@@ -126,8 +126,8 @@ module _ (shape : Shape) (zs : List ℕ) (i : ℕ) (p : Places) (placed : Placed
       gradients-are : (k : ℕ) → k < p .rest
           → four-entries work (p .east) (p .south) n k ≡ listed (gradients-at (mosaic (frame shape zs)) i (1 - chroma-start (shape .phase) i + 2 * k))
       gradients-are k l = site-gradients-second (frame shape zs) i tops work (reads .reads .gradients) n (p .east) (p .south) (p .rest) (p .count) k
-          (placed .east-is ∙ ap (λ (x : ℕ). ring-row i * record-size (shape .width) + (x + 1)) count-chroma)
-          (placed .south-is ∙ ap (λ (x : ℕ). ring-row i * record-size (shape .width) + (shape .width + 2) + x) count-chroma)
+          (placed .east-is ∙ ap (λ (x : ℕ). place-in-ring i * record-size (shape .width) + (x + 1)) count-chroma)
+          (placed .south-is ∙ ap (λ (x : ℕ). place-in-ring i * record-size (shape .width) + (shape .width + 2) + x) count-chroma)
           rest-green count-chroma norths (omega (arith, rest-green))
 
       own-beside : (k : ℕ) → k < p .rest

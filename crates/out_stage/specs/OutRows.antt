@@ -15,7 +15,7 @@ use Rattle.frame.specs.declared.Shape.{Shape}
 use Rattle.method.specs.Gradients.{mosaic}
 use Rattle.method.specs.Planes.{colour-difference}
 use Rattle.positions.specs.Taken.{Taken}
-use Rattle.positions.specs.Rings.{ring-row}
+use Rattle.positions.specs.Rings.{place-in-ring}
 use Rattle.positions.specs.HalfRows.{chroma-start, half-count, chroma-count, Half}
 use Rattle.records.specs.Quantities.{finals, others, outputs}
 use Rattle.records.specs.Stages.{Out-reads}
@@ -87,7 +87,7 @@ pub record Plane-row (shape : Shape) (i : ℕ) (c : Colour) (zx zg xg xo x y old
 -- ---- the line: row i stands in the ring of rows, its differences and those of the rows one off in work
 pub record Out-lent (f : Frame) (i base : ℕ) (rows : List ℕ) (tops work : List ℤ) : Type 0 where
   pub reads : Out-reads f i base tops work
-  pub row : Loaded f i (ring-row i * 4112) rows
+  pub row : Loaded f i (place-in-ring i * 4112) rows
 
 -- row i of the plane of a colour
 pub record Out-stores (shape : Shape) (i base : ℕ) (c : Colour) (rows : List ℕ) (tops work old new : List ℤ) : Type 0 where

@@ -9,7 +9,7 @@ use Rattle.toolkit.specs.Writes.{Wrote, wrote-as}
 use Rattle.frame.specs.Sites.{Colour, green, frame}
 use Rattle.frame.specs.Colours.{trade}
 use Rattle.frame.specs.declared.Shape.{Shape}
-use Rattle.positions.specs.Rings.{ring-row}
+use Rattle.positions.specs.Rings.{place-in-ring}
 use Rattle.positions.specs.HalfRows.{chroma-start, half-count, chroma-count}
 use Rattle.positions.specs.HalfRowLaws.{chroma-small}
 use Rattle.positions.specs.Places.{area, row-end}
@@ -71,7 +71,7 @@ module _ (shape : Shape) (i start : ℕ) (r : Row-of shape i) (e : start ≡ chr
 
 -- the steps of the line, one after the other
 pub out-stored : {shape : Shape} {i base at : ℕ} {c : Colour} {rows : List ℕ} {tops work own other x y zx zg xg xo x' y' old new : List ℤ}
-    → Differences-formed shape i base tops work own other x y → at ≡ ring-row i * 4112
+    → Differences-formed shape i base tops work own other x y → at ≡ place-in-ring i * 4112
     → Outputs-formed shape i at rows own other x y zx zg xg xo x' y' → Plane-row shape i c zx zg xg xo x' y' old new
     → Out-stores shape i base c rows tops work old new
 out-stored d e o p = record { row = λ zs lent. p .row zs (o .row zs (outputs-read lent e (d .row zs (lent .reads)))) }

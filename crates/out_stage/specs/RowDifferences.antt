@@ -10,7 +10,7 @@ use Rattle.frame.specs.Colours.{trade}
 use Rattle.frame.specs.declared.Shape.{Shape}
 use Rattle.method.specs.Gradients.{mosaic}
 use Rattle.method.specs.Planes.{colour-difference}
-use Rattle.positions.specs.Rings.{ring-row}
+use Rattle.positions.specs.Rings.{place-in-ring}
 use Rattle.positions.specs.HalfRows.{chroma-start, half-count, chroma-count, chroma-row, Half}
 use Rattle.positions.specs.HalfRowLaws.{chroma-small, count-column, both-counts}
 use Rattle.records.specs.Layout.{record-size, final-part, other-part}
@@ -45,14 +45,14 @@ module _ (shape : Shape) (zs : List ℕ) (i : ℕ) (p : Places) (placed : Placed
   -- a part of the row's own record, copied and mirrored
   row-half : (q : ℕ → ℕ → ℤ) (o a : ℕ) (copied row : List ℤ)
       → Kept (record-size (shape .width)) o (chroma-count (frame shape zs)) (i - 1) (min (i + 2) (shape .height)) (chroma-row (frame shape zs) q) work
-      → a ≡ ring-row i * record-size (shape .width) + o → Copied p work a copied
+      → a ≡ place-in-ring i * record-size (shape .width) + o → Copied p work a copied
       → Mirrored (shape .width) p copied row
       → Wide-half (shape .width) p (q i) row
   row-half q o a copied row held e c m =
       let lent = reads .reads .lent in
       mirrored (shape .width) (p .start) (lent .taken .wide) (start-small shape zs i p placed) 3 (half-count (shape .width) (p .start) + 4 + 1) (q i)
       copied row
-      (half-of-row (frame shape zs) ring-row (record-size (shape .width)) o (i - 1) (min (i + 2) (shape .height)) q work (lent .taken .wide) held i (p .start) a
+      (half-of-row (frame shape zs) place-in-ring (record-size (shape .width)) o (i - 1) (min (i + 2) (shape .height)) q work (lent .taken .wide) held i (p .start) a
       (p .count) copied (omega arith) (omega (arith, lent .inside)) (placed .start-is) (placed .count-is) e c) m
 
   -- its middle

@@ -15,7 +15,7 @@ use Rattle.method.specs.Gradients.{mosaic}
 use Rattle.method.specs.Planes.{colour-difference, final-round}
 use Rattle.method.specs.Sizes.{colour-difference-size}
 use Rattle.positions.specs.Taken.{Taken}
-use Rattle.positions.specs.Rings.{ring-row}
+use Rattle.positions.specs.Rings.{place-in-ring}
 use Rattle.positions.specs.HalfRows.{chroma-start, chroma-count, Half}
 use Rattle.positions.specs.HalfRowLaws.{chroma-small}
 use Rattle.records.specs.Quantities.{finals, others, outputs}
@@ -29,7 +29,7 @@ use Rattle.out_stage.specs.HalfLaws.{half-as, half-same, half-of-three, 
 
 -- what the outputs are formed from, where row i stands at its place of the ring
 pub outputs-read : {f : Frame} {i base at : ℕ} {rows : List ℕ} {tops work own other x y : List ℤ} → Out-lent f i base rows tops work
-    → at ≡ ring-row i * 4112 → Row-differences f i own other x y → Outputs-read f i at rows own other x y
+    → at ≡ place-in-ring i * 4112 → Row-differences f i own other x y → Outputs-read f i at rows own other x y
 outputs-read lent e d = record {
   taken = lent .reads .reads .lent .taken;
   inside = lent .reads .reads .lent .inside;

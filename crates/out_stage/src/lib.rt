@@ -112,7 +112,7 @@ fn store_outputs(
     }
 }
 
-// Row i of the three planes. a, b, l and m are own, other, x and y of the steps; d, e, f and g are zx, zg, xg and xo.
+// Row i of the three planes.
 pub fn out_line(
     rows: &[u16; 98688],
     tops: &[i32],
@@ -121,14 +121,14 @@ pub fn out_line(
     i: usize,
     base: usize,
     n: &mut [i32; 2064],
-    a: &mut [i32; 2064],
-    b: &mut [i32; 2064],
-    d: &mut [i32; 2064],
-    e: &mut [i32; 2064],
-    f: &mut [i32; 2064],
-    g: &mut [i32; 2064],
-    l: &mut [i32; 2064],
-    m: &mut [i32; 2064],
+    own: &mut [i32; 2064],
+    other: &mut [i32; 2064],
+    zx: &mut [i32; 2064],
+    zg: &mut [i32; 2064],
+    xg: &mut [i32; 2064],
+    xo: &mut [i32; 2064],
+    x: &mut [i32; 2064],
+    y: &mut [i32; 2064],
     red: &mut [i32],
     green: &mut [i32],
     blue: &mut [i32],
@@ -136,21 +136,21 @@ pub fn out_line(
     requires { ⌜ Some-samples (λ (zs : List ℕ). Out-lent (frame shape zs) i base (now rows) (now tops) (now work)) ⌝ }
     requires { ⌜ (length (now red) ≡ shape .height * shape .width) × (length (now green) ≡ shape .height * shape .width)
         × (length (now blue) ≡ shape .height * shape .width) ⌝ }
-    requires { ⌜ (length (now n) ≡ 2064) × (length (now a) ≡ 2064) × (length (now b) ≡ 2064) × (length (now d) ≡ 2064)
-        × (length (now e) ≡ 2064) × (length (now f) ≡ 2064) × (length (now g) ≡ 2064) × (length (now l) ≡ 2064) × (length (now m) ≡ 2064) ⌝ }
+    requires { ⌜ (length (now n) ≡ 2064) × (length (now own) ≡ 2064) × (length (now other) ≡ 2064) × (length (now zx) ≡ 2064)
+        × (length (now zg) ≡ 2064) × (length (now xg) ≡ 2064) × (length (now xo) ≡ 2064) × (length (now x) ≡ 2064) × (length (now y) ≡ 2064) ⌝ }
     ensures { λ _. ⌜ Out-stores shape i base Colour.red (now (rows .entry)) (now (tops .entry)) (now (work .entry))
         (now (red .entry)) (now (red .exit)) ⌝ }
     ensures { λ _. ⌜ Out-stores shape i base Colour.green (now (rows .entry)) (now (tops .entry)) (now (work .entry))
         (now (green .entry)) (now (green .exit)) ⌝ }
     ensures { λ _. ⌜ Out-stores shape i base Colour.blue (now (rows .entry)) (now (tops .entry)) (now (work .entry))
         (now (blue .entry)) (now (blue .exit)) ⌝ }
-    ensures { λ _. ⌜ (length (now (n .exit)) ≡ 2064) × (length (now (a .exit)) ≡ 2064) × (length (now (b .exit)) ≡ 2064)
-        × (length (now (d .exit)) ≡ 2064) × (length (now (e .exit)) ≡ 2064) × (length (now (f .exit)) ≡ 2064)
-        × (length (now (g .exit)) ≡ 2064) × (length (now (l .exit)) ≡ 2064) × (length (now (m .exit)) ≡ 2064) ⌝ }
+    ensures { λ _. ⌜ (length (now (n .exit)) ≡ 2064) × (length (now (own .exit)) ≡ 2064) × (length (now (other .exit)) ≡ 2064)
+        × (length (now (zx .exit)) ≡ 2064) × (length (now (zg .exit)) ≡ 2064) × (length (now (xg .exit)) ≡ 2064)
+        × (length (now (xo .exit)) ≡ 2064) × (length (now (x .exit)) ≡ 2064) × (length (now (y .exit)) ≡ 2064) ⌝ }
 {
     let p = out_rows::row_places(shape, i, base);
     let at = mosaic_rows::row_at(i, base);
-    row_differences(tops, work, shape, i, base, p, n, a, b, l, m);
-    row_outputs(rows, at, shape, i, p, a, b, d, e, f, g, l, m);
-    store_outputs(shape, i, p.start, d, e, f, g, l, m, red, green, blue);
+    row_differences(tops, work, shape, i, base, p, n, own, other, x, y);
+    row_outputs(rows, at, shape, i, p, own, other, zx, zg, xg, xo, x, y);
+    store_outputs(shape, i, p.start, zx, zg, xg, xo, x, y, red, green, blue);
 }

@@ -3,8 +3,8 @@ use mathlib.Core.Path.{_≡_}
 use Prim.Native.Nat.{ℕ, _+_, _%_, _<_, _≤_}
 
 -- the place of row r: a row stays there until row r + 24 comes
-unfoldable pub ring-row : ℕ → ℕ
-ring-row r = r % 24
+unfoldable pub place-in-ring : ℕ → ℕ
+place-in-ring r = r % 24
 
 -- base is a row at place 0, and the places of the rows from lo to hi follow from it without a division
 pub record Round (base lo hi : ℕ) : Type 0 where

@@ -4,7 +4,7 @@ ghost use Prim.Native.Nat.{_+_, _-_, _<_, _≤_};
 ghost use lib.IntN.{pos, subℕ};
 ghost use Rattle.frame.specs.Sites.{reflect};
 ghost use Rattle.positions.specs.HalfRows.{chroma-start, half-count};
-ghost use Rattle.positions.specs.Rings.{ring-row, Round};
+ghost use Rattle.positions.specs.Rings.{place-in-ring, Round};
 
 // Position x of a line of n, reflected.
 pub fn reflected(n: usize, x: usize) -> usize
@@ -52,7 +52,7 @@ pub fn half_count(w: usize, c: usize) -> usize
 // The place of row r in a ring, r mod 24, from a row at place 0.
 pub fn ring_place(r: usize, base: usize) -> usize
     requires { ⌜ (r ≤ 4096) × (Round base r r) ⌝ }
-    ensures { λ p. ⌜ p ≡ ring-row r ⌝ }
+    ensures { λ p. ⌜ p ≡ place-in-ring r ⌝ }
 {
     if r < base { r + 24 - base } else { r - base }
 }

@@ -4,7 +4,7 @@ use mathlib.Core.List.{List}
 use Prim.Native.Nat.{ℕ, _+_, _*_, _<_, _≤_}
 use lib.IntN.{ℤ, pos}
 use lib.ListN.{getD}
-use Rattle.positions.specs.Rings.{ring-row}
+use Rattle.positions.specs.Rings.{place-in-ring}
 
 -- the rows from lo to hi − 1 hold q: row r stands from place r · s + o on, and has n r entries
 pub record Stands (place : ℕ → ℕ) (s o : ℕ) (n : ℕ → ℕ) (lo hi : ℕ) (q : ℕ → ℕ → ℤ) (buffer : List ℤ) : Type 0 where
@@ -16,4 +16,4 @@ Held = Stands (λ (r : ℕ). r)
 
 -- the rows share the places of a ring
 abbrev pub Kept : ℕ → ℕ → (ℕ → ℕ) → ℕ → ℕ → (ℕ → ℕ → ℤ) → List ℤ → Type 0
-Kept = Stands ring-row
+Kept = Stands place-in-ring

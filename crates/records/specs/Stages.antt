@@ -11,7 +11,7 @@ use Rattle.frame.specs.declared.Shape.{Shape}
 use Rattle.method.specs.Green.{vertical, diagonal}
 use Rattle.positions.specs.Taken.{Taken}
 use Rattle.positions.specs.HalfRows.{chroma-count, chroma-row, in-halves}
-use Rattle.positions.specs.Rings.{ring-row, Round}
+use Rattle.positions.specs.Rings.{place-in-ring, Round}
 use Rattle.records.specs.Held.{Held, Kept}
 use Rattle.records.specs.Layout.{record-size, gradient-size, final-part, other-part, top-size}
 use Rattle.records.specs.Quantities.{norths, gradient-entry, trials, greens, finals, others}
@@ -43,7 +43,7 @@ pub record Tops-stored (f : Frame) (i : ℕ) (old new : List ℤ) : Type 0 where
   pub late : 2 ≤ i → new ≡ old
 
 abbrev pub Gradients-stored : Frame → ℕ → List ℤ → List ℤ → Type 0
-Gradients-stored f i old new = Wrote (pos 0) (ring-row i * record-size (f .width)) (gradient-size (f .width)) (gradient-entry f i) old new
+Gradients-stored f i old new = Wrote (pos 0) (place-in-ring i * record-size (f .width)) (gradient-size (f .width)) (gradient-entry f i) old new
 
 -- a quantity of the red and blue sites of row i is stored in its row of a plane
 abbrev pub Chroma-stored : Frame → (ℕ → ℕ → ℤ) → ℕ → List ℤ → List ℤ → Type 0
@@ -71,7 +71,7 @@ pub record Enhance-reads (f : Frame) (i base : ℕ) (tops work green : List ℤ)
 
 pub record Enhance-stores (shape : Shape) (i base : ℕ) (tops green old new : List ℤ) : Type 0 where
   pub row : (zs : List ℕ) → Enhance-reads (frame shape zs) i base tops old green
-      → Wrote (pos 0) (ring-row i * record-size (shape .width) + final-part (shape .width)) (chroma-count (frame shape zs) i)
+      → Wrote (pos 0) (place-in-ring i * record-size (shape .width) + final-part (shape .width)) (chroma-count (frame shape zs) i)
       (chroma-row (frame shape zs) (finals (frame shape zs)) i) old new
 
 -- ---- diagonal: the difference of the other colour of row i, from the final differences of the rows one off
@@ -83,7 +83,7 @@ pub record Diagonal-reads (f : Frame) (i base : ℕ) (tops work : List ℤ) : Ty
 
 pub record Diagonal-stores (shape : Shape) (i base : ℕ) (tops old new : List ℤ) : Type 0 where
   pub row : (zs : List ℕ) → Diagonal-reads (frame shape zs) i base tops old
-      → Wrote (pos 0) (ring-row i * record-size (shape .width) + other-part (shape .width)) (chroma-count (frame shape zs) i)
+      → Wrote (pos 0) (place-in-ring i * record-size (shape .width) + other-part (shape .width)) (chroma-count (frame shape zs) i)
       (chroma-row (frame shape zs) (others (frame shape zs)) i) old new
 
 -- ---- out: the three numbers of row i, from both differences of the rows i and one off

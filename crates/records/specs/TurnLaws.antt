@@ -10,7 +10,7 @@ use lib.ListN.{length, getD}
 use Rattle.toolkit.specs.Tests.{by-test, ltb-lt, ltb-ge, eqb-eq, eqb-ne}
 use Rattle.toolkit.specs.Writes.{Wrote}
 use Rattle.positions.specs.Places.{row-end}
-use Rattle.positions.specs.Rings.{ring-row}
+use Rattle.positions.specs.Rings.{place-in-ring}
 use Rattle.positions.specs.RingLaws.{ring-apart}
 use Rattle.records.specs.Held.{Stands, Held, Kept}
 use Rattle.records.specs.Turns.{Turned, Turn, Ring-turn}
@@ -55,7 +55,7 @@ Clear place lo m = (r : ℕ) → lo ≤ r → r < m → ¬ (place r ≡ place m)
 own-clear : (lo m : ℕ) → Clear (λ (r : ℕ). r) lo m
 own-clear lo m r a b e = omega arith
 
-ring-clear : (lo m : ℕ) → m < lo + 24 → Clear ring-row lo m
+ring-clear : (lo m : ℕ) → m < lo + 24 → Clear place-in-ring lo m
 ring-clear lo m h r a b = ring-apart r m b (omega arith)
 
 module _ {place : ℕ → ℕ} {H L t s o : ℕ} {n : ℕ → ℕ} {q : ℕ → ℕ → ℤ} {old new : List ℤ} (turn : Turned place H L t s o n q old new) where

@@ -4,7 +4,7 @@ use mathlib.Core.List.{List}
 use Prim.Native.Nat.{ℕ, _+_, _*_, _-_, _<_, _≤_}
 use lib.IntN.{ℤ, pos}
 use Rattle.toolkit.specs.Writes.{Wrote}
-use Rattle.positions.specs.Rings.{ring-row}
+use Rattle.positions.specs.Rings.{place-in-ring}
 
 -- row t − L is stored at its place, where it is one of the H rows, and else nothing is changed
 pub record Turned (place : ℕ → ℕ) (H L t s o : ℕ) (n : ℕ → ℕ) (q : ℕ → ℕ → ℤ) (old new : List ℤ) : Type 0 where
@@ -18,4 +18,4 @@ Turn = Turned (λ (r : ℕ). r)
 
 -- the rows share the places of a ring
 abbrev pub Ring-turn : ℕ → ℕ → ℕ → ℕ → ℕ → (ℕ → ℕ) → (ℕ → ℕ → ℤ) → List ℤ → List ℤ → Type 0
-Ring-turn = Turned ring-row
+Ring-turn = Turned place-in-ring

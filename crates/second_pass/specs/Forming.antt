@@ -50,19 +50,19 @@ module _ (f : Frame) (i c count : ℕ) (diagonals verticals : List ℤ) (read : 
       let n = chroma-count-is f i c ec in
       entries-as h (omega arith) (omega arith) (λ x l u. ap (λ (y : ℕ). q (column-at (f .width) (y + 2 * x))) ec)
 
-  module _ (ph₀ ph pv pd₀ pd : List ℤ) (diagonals-copied : Copied diagonals pd₀) (verticals-copied : Copied verticals pv)
-      (across : Entries (pos 0) 2064 4 (count + 4) (across-entry pd₀ pv) ph₀)
+  module _ (rh₀ rh rv rd₀ rd : List ℤ) (diagonals-copied : Copied diagonals rd₀) (verticals-copied : Copied verticals rv)
+      (across : Entries (pos 0) 2064 4 (count + 4) (across-entry rd₀ rv) rh₀)
       (ph-mirrored : Entries (pos 0) 2064 (4 - 4) (half-count (f .width) c + 4 + 4)
-      (λ (x : ℕ). getD ph₀ (source-entry (f .width) c x) (pos 0)) ph)
+      (λ (x : ℕ). getD rh₀ (source-entry (f .width) c x) (pos 0)) rh)
       (pd-mirrored : Entries (pos 0) 2064 (4 - 4) (half-count (f .width) c + 4 + 4)
-      (λ (x : ℕ). getD pd₀ (source-entry (f .width) c x) (pos 0)) pd) where
-    both-half : Half (f .width) c 4 (half-count (f .width) c + 4) (trials f diagonal i) pd₀
-    both-half = copied-half diagonal diagonals pd₀ (read .diagonals-held) diagonals-copied
+      (λ (x : ℕ). getD rd₀ (source-entry (f .width) c x) (pos 0)) rd) where
+    both-half : Half (f .width) c 4 (half-count (f .width) c + 4) (trials f diagonal i) rd₀
+    both-half = copied-half diagonal diagonals rd₀ (read .diagonals-held) diagonals-copied
 
-    down-half : Half (f .width) c 4 (half-count (f .width) c + 4) (trials f vertical i) pv
-    down-half = copied-half vertical verticals pv (read .verticals-held) verticals-copied
+    down-half : Half (f .width) c 4 (half-count (f .width) c + 4) (trials f vertical i) rv
+    down-half = copied-half vertical verticals rv (read .verticals-held) verticals-copied
 
-    across-half : Half (f .width) c 4 (half-count (f .width) c + 4) (trials f horizontal i) ph₀
+    across-half : Half (f .width) c 4 (half-count (f .width) c + 4) (trials f horizontal i) rh₀
     unfolding across-entry
     across-half = entries-as across (omega arith) (omega arith) (λ x a b.
         ap₂ (λ (d v : ℤ). pos 2 *ℤ d -ℤ v) (both-half .at x a b) (down-half .at x a b) ∙ across-is f i (column-at (f .width) (c + 2 * x)))
@@ -77,10 +77,10 @@ module _ (f : Frame) (i c count : ℕ) (diagonals verticals : List ℤ) (read : 
         let l = mirrored (f .width) c (read .taken .wide) small (4 - 4) (half-count (f .width) c + 4 + 4) (trials f k i) old row h m in
         half-told 0 8 8 (trials f k i) row (entries-as l (omega arith) (omega arith) (λ x a b. refl)) refl
 
-    pub formed : Sums-read f i diagonals verticals ph pv pd
+    pub formed : Sums-read f i diagonals verticals rh rv rd
     formed = record {
       planes = read;
-      across-row = whole horizontal ph₀ ph across-half ph-mirrored;
-      down-row = half-told 4 4 4 (trials f vertical i) pv down-half refl;
-      both-row = whole diagonal pd₀ pd both-half pd-mirrored;
+      across-row = whole horizontal rh₀ rh across-half ph-mirrored;
+      down-row = half-told 4 4 4 (trials f vertical i) rv down-half refl;
+      both-row = whole diagonal rd₀ rd both-half pd-mirrored;
     }

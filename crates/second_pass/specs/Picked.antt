@@ -16,13 +16,13 @@ picked FH FV FD x y z = cond (ltZ FH FV && ltZ FH FD) x (cond (ltZ FV FH && ltZ 
 
 -- for entry x of the half rows
 unfoldable pub picked-entry : List ℤ → List ℤ → List ℤ → List ℤ → List ℤ → List ℤ → ℕ → ℤ
-picked-entry ph pv pd fh fv fd x =
-    picked (pos 2 *ℤ getD fh x (pos 0)) (pos 2 *ℤ getD fv x (pos 0)) (getD fd x (pos 0)) (getD ph x (pos 0)) (getD pv x (pos 0)) (getD pd x (pos 0))
+picked-entry rh rv rd fh fv fd x =
+    picked (pos 2 *ℤ getD fh x (pos 0)) (pos 2 *ℤ getD fv x (pos 0)) (getD fd x (pos 0)) (getD rh x (pos 0)) (getD rv x (pos 0)) (getD rd x (pos 0))
 
 -- r_H from r_D and r_V
 unfoldable pub across-entry : List ℤ → List ℤ → ℕ → ℤ
-across-entry pd pv x = pos 2 *ℤ getD pd x (pos 0) -ℤ getD pv x (pos 0)
+across-entry rd rv x = pos 2 *ℤ getD rd x (pos 0) -ℤ getD rv x (pos 0)
 
 -- the half rows of r_H, r_V and r_D, formed from the planes
-pub record Rows-formed (shape : Shape) (i : ℕ) (diagonals verticals ph pv pd : List ℤ) : Type 0 where
-  pub rows : (zs : List ℕ) → Second-reads (frame shape zs) i diagonals verticals → Sums-read (frame shape zs) i diagonals verticals ph pv pd
+pub record Rows-formed (shape : Shape) (i : ℕ) (diagonals verticals rh rv rd : List ℤ) : Type 0 where
+  pub rows : (zs : List ℕ) → Second-reads (frame shape zs) i diagonals verticals → Sums-read (frame shape zs) i diagonals verticals rh rv rd

@@ -79,7 +79,7 @@ green-is : (f : Frame) (i j : ℕ) → greens f i j ≡ trials f (second-pass-at
 unfolding greens trials green-difference green-at trial-difference
 green-is f i j = refl
 
-module _ (f : Frame) (i : ℕ) (diagonals verticals ph pv pd fh fv fd : List ℤ) (read : Sums-read f i diagonals verticals ph pv pd)
+module _ (f : Frame) (i : ℕ) (diagonals verticals rh rv rd fh fv fd : List ℤ) (read : Sums-read f i diagonals verticals rh rv rd)
     (sums : Sums f 3 i fh fv fd) where
   -- the difference of the site itself
   own : {lo hi : ℕ} (k : Direction) (row : List ℤ) (x : ℕ) → Half (f .width) (chroma-start (f .phase) i) lo hi (trials f k i) row → lo ≤ x → x < hi
@@ -91,17 +91,17 @@ module _ (f : Frame) (i : ℕ) (diagonals verticals ph pv pd fh fv fd : List ℤ
       ∙ ap (trials f k i)
       (column-inside (f .width) (chroma-start (f .phase) i + 2 * x) (read .planes .taken .wide) (omega arith) (omega arith) ∙ omega arith)
 
-  green-entry : (x : ℕ) → 4 ≤ x → x < chroma-count f i + 4 → picked-entry ph pv pd fh fv fd x ≡ greens f i (chroma-start (f .phase) i + 2 * (x - 4))
+  green-entry : (x : ℕ) → 4 ≤ x → x < chroma-count f i + 4 → picked-entry rh rv rd fh fv fd x ≡ greens f i (chroma-start (f .phase) i + 2 * (x - 4))
   unfolding picked-entry reach
   green-entry x a b =
       let j = chroma-start (f .phase) i + 2 * (x - 4) in
       picked-read (ap (λ (z : ℤ). pos 2 *ℤ z) (sums .across .at x a b)) (ap (λ (z : ℤ). pos 2 *ℤ z) (sums .down .at x a b)) (sums .both .at x a b)
-      (own horizontal ph x (read .across-row) (omega arith) (omega arith) a b) (own vertical pv x (read .down-row) a b a b)
-      (own diagonal pd x (read .both-row) (omega arith) (omega arith) a b)
+      (own horizontal rh x (read .across-row) (omega arith) (omega arith) a b) (own vertical rv x (read .down-row) a b a b)
+      (own diagonal rd x (read .both-row) (omega arith) (omega arith) a b)
       ∙ (picked-is (λ k. trials f k i j) _ _ _ ∙ (ap (λ (k : Direction). trials f k i j) (sym (second-is f i j)) ∙ sym (green-is f i j)))
 
   pub line-stored : (count : ℕ) (old new : List ℤ) → count ≡ chroma-count f i
-      → Wrote (pos 0) (i * f .width) count (λ (k : ℕ). picked-entry ph pv pd fh fv fd (k + 4)) old new → Chroma-stored f (greens f) i old new
+      → Wrote (pos 0) (i * f .width) count (λ (k : ℕ). picked-entry rh rv rd fh fv fd (k + 4)) old new → Chroma-stored f (greens f) i old new
   unfolding chroma-row
   line-stored count old new e w = wrote-as w e (λ k l.
       let same : k + 4 - 4 ≡ k = omega arith in

@@ -15,14 +15,14 @@ ghost use Rattle.sums.specs.Sums.{Sized, Sums-room};
 ghost use Rattle.second_pass.specs.Picked.{picked, picked-entry, across-entry, Rows-formed};
 
 // r_H, of which r_D is the mean with r_V.
-fn across_row(pd: &[i32; 2064], pv: &[i32; 2064], ph: &mut [i32; 2064], count: usize)
-    requires { ⌜ (count ≤ 2048) × (length (now ph) ≡ 2064) ⌝ }
-    requires { ⌜ (Sized 32760 4 (count + 4) (now pd)) × (Sized 32760 4 (count + 4) (now pv)) ⌝ }
-    ensures { λ _. ⌜ Entries (pos 0) 2064 4 (count + 4) (across-entry (now (pd .entry)) (now (pv .entry))) (now (ph .exit)) ⌝ }
+fn across_row(rd: &[i32; 2064], rv: &[i32; 2064], rh: &mut [i32; 2064], count: usize)
+    requires { ⌜ (count ≤ 2048) × (length (now rh) ≡ 2064) ⌝ }
+    requires { ⌜ (Sized 32760 4 (count + 4) (now rd)) × (Sized 32760 4 (count + 4) (now rv)) ⌝ }
+    ensures { λ _. ⌜ Entries (pos 0) 2064 4 (count + 4) (across-entry (now (rd .entry)) (now (rv .entry))) (now (rh .exit)) ⌝ }
 {
     let mut k = 0;
     while k < count {
-        ph[k + 4] = 2 * pd[k + 4] - pv[k + 4];
+        rh[k + 4] = 2 * rd[k + 4] - rv[k + 4];
         k += 1;
     }
 }
@@ -35,22 +35,22 @@ fn trial_rows(
     i: usize,
     c: usize,
     count: usize,
-    ph: &mut [i32; 2064],
-    pv: &mut [i32; 2064],
-    pd: &mut [i32; 2064],
+    rh: &mut [i32; 2064],
+    rv: &mut [i32; 2064],
+    rd: &mut [i32; 2064],
 )
     requires { ⌜ Some-samples (λ (zs : List ℕ). Second-reads (frame shape zs) i (now diagonals) (now verticals)) ⌝ }
     requires { ⌜ (c ≡ chroma-start (shape .phase) i) × (c ≤ 1) × (count ≡ half-count (shape .width) c) × (count ≤ 2048) ⌝ }
-    requires { ⌜ (length (now ph) ≡ 2064) × (length (now pv) ≡ 2064) × (length (now pd) ≡ 2064) ⌝ }
-    ensures { λ _. ⌜ Rows-formed shape i (now (diagonals .entry)) (now (verticals .entry)) (now (ph .exit)) (now (pv .exit)) (now (pd .exit)) ⌝ }
+    requires { ⌜ (length (now rh) ≡ 2064) × (length (now rv) ≡ 2064) × (length (now rd) ≡ 2064) ⌝ }
+    ensures { λ _. ⌜ Rows-formed shape i (now (diagonals .entry)) (now (verticals .entry)) (now (rh .exit)) (now (rv .exit)) (now (rd .exit)) ⌝ }
 {
     let w = shape.width;
     let at = i * w;
-    half_rows::copy(diagonals, at, count, pd);
-    half_rows::copy(verticals, at, count, pv);
-    across_row(pd, pv, ph, count);
-    half_rows::mirror(ph, w, c, 4);
-    half_rows::mirror(pd, w, c, 4);
+    half_rows::copy(diagonals, at, count, rd);
+    half_rows::copy(verticals, at, count, rv);
+    across_row(rd, rv, rh, count);
+    half_rows::mirror(rh, w, c, 4);
+    half_rows::mirror(rd, w, c, 4);
 }
 
 // x, y or z, by the least of the three sums: the first two only if they are below both others.
@@ -68,9 +68,9 @@ fn pick(fh: i32, fv: i32, fd: i32, x: i32, y: i32, z: i32) -> i32
 
 // D of a row, stored from at on.
 fn second_row(
-    ph: &[i32; 2064],
-    pv: &[i32; 2064],
-    pd: &[i32; 2064],
+    rh: &[i32; 2064],
+    rv: &[i32; 2064],
+    rd: &[i32; 2064],
     fh: &[i32; 2064],
     fv: &[i32; 2064],
     fd: &[i32; 2064],
@@ -80,7 +80,7 @@ fn second_row(
 )
     requires { ⌜ (count ≤ 2048) × (at + count ≤ length (now out)) × (length (now out) ≤ 67108864)
         × (Sums-room 524160 count (now fh) (now fv) (now fd)) ⌝ }
-    ensures { λ _. ⌜ Wrote (pos 0) at count (λ (k : ℕ). picked-entry (now (ph .entry)) (now (pv .entry)) (now (pd .entry))
+    ensures { λ _. ⌜ Wrote (pos 0) at count (λ (k : ℕ). picked-entry (now (rh .entry)) (now (rv .entry)) (now (rd .entry))
         (now (fh .entry)) (now (fv .entry)) (now (fd .entry)) (k + 4)) (now (out .entry)) (now (out .exit)) ⌝ }
 {
     let mut k = 0;
@@ -89,9 +89,9 @@ fn second_row(
             2 * fh[k + 4],
             2 * fv[k + 4],
             fd[k + 4],
-            ph[k + 4],
-            pv[k + 4],
-            pd[k + 4],
+            rh[k + 4],
+            rv[k + 4],
+            rd[k + 4],
         );
         k += 1;
     }
@@ -103,9 +103,9 @@ pub fn second_line(
     verticals: &[i32],
     shape: Shape,
     i: usize,
-    ph: &mut [i32; 2064],
-    pv: &mut [i32; 2064],
-    pd: &mut [i32; 2064],
+    rh: &mut [i32; 2064],
+    rv: &mut [i32; 2064],
+    rd: &mut [i32; 2064],
     fh: &mut [i32; 2064],
     fv: &mut [i32; 2064],
     fd: &mut [i32; 2064],
@@ -113,16 +113,16 @@ pub fn second_line(
 )
     requires { ⌜ Some-samples (λ (zs : List ℕ). Second-reads (frame shape zs) i (now diagonals) (now verticals)) ⌝ }
     requires { ⌜ length (now out) ≡ shape .height * shape .width ⌝ }
-    requires { ⌜ (length (now ph) ≡ 2064) × (length (now pv) ≡ 2064) × (length (now pd) ≡ 2064)
+    requires { ⌜ (length (now rh) ≡ 2064) × (length (now rv) ≡ 2064) × (length (now rd) ≡ 2064)
         × (length (now fh) ≡ 2064) × (length (now fv) ≡ 2064) × (length (now fd) ≡ 2064) ⌝ }
     ensures { λ _. ⌜ Second-stores shape i (now (diagonals .entry)) (now (verticals .entry)) (now (out .entry)) (now (out .exit)) ⌝ }
-    ensures { λ _. ⌜ (length (now (ph .exit)) ≡ 2064) × (length (now (pv .exit)) ≡ 2064) × (length (now (pd .exit)) ≡ 2064)
+    ensures { λ _. ⌜ (length (now (rh .exit)) ≡ 2064) × (length (now (rv .exit)) ≡ 2064) × (length (now (rd .exit)) ≡ 2064)
         × (length (now (fh .exit)) ≡ 2064) × (length (now (fv .exit)) ≡ 2064) × (length (now (fd .exit)) ≡ 2064) ⌝ }
 {
     let w = shape.width;
     let c = positions::first_chroma(shape.phase, i);
     let count = positions::half_count(w, c);
-    trial_rows(diagonals, verticals, shape, i, c, count, ph, pv, pd);
+    trial_rows(diagonals, verticals, shape, i, c, count, rh, rv, rd);
     sums::sum_row(
         diagonals,
         verticals,
@@ -130,12 +130,12 @@ pub fn second_line(
         i,
         count,
         3,
-        ph,
-        pv,
-        pd,
+        rh,
+        rv,
+        rd,
         fh,
         fv,
         fd,
     );
-    second_row(ph, pv, pd, fh, fv, fd, out, i * w, count);
+    second_row(rh, rv, rd, fh, fv, fd, out, i * w, count);
 }

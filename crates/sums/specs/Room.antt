@@ -37,7 +37,7 @@ module _ {f : Frame} {i count : ℕ} {diagonals verticals : List ℤ} (read : Se
   pub row-place : (r : ℕ) → r < f .height → (r * f .width + count ≤ f .height * f .width) × (f .height * f .width ≤ 16777216)
   row-place r l = plane-row f r count (read .taken) l (count-room .1)
 
-module _ {f : Frame} {i count : ℕ} {diagonals verticals ph pv pd : List ℤ} (read : Sums-read f i diagonals verticals ph pv pd)
+module _ {f : Frame} {i count : ℕ} {diagonals verticals rh rv rd : List ℤ} (read : Sums-read f i diagonals verticals rh rv rd)
     (same : count ≡ chroma-count f i) where
   abbrev start : ℕ
   start = chroma-start (f .phase) i
@@ -95,14 +95,14 @@ module _ {f : Frame} {i count : ℕ} {diagonals verticals ph pv pd : List ℤ} (
     pub room-next : (above below : ℕ) (fh fv fd new-fh new-fv new-fd : List ℤ)
         → (above ≡ reflect (f .height) (subℕ i (2 * t))) × (above < f .height)
         → (below ≡ reflect (f .height) (pos (i + 2 * t))) × (below < f .height) → 1 ≤ t → Sums-room ((t - 1) * 131040) count fh fv fd
-        → Stepped t (above * f .width) (below * f .width) count diagonals verticals ph pv pd fh fv fd new-fh new-fv new-fd
+        → Stepped t (above * f .width) (below * f .width) count diagonals verticals rh rv rd fh fv fd new-fh new-fv new-fd
         → Sums-room (t * 131040) count new-fh new-fv new-fd
     room-next above below fh fv fd new-fh new-fv new-fd a b one room new =
         let p = read .planes in
-        let h = columns-asked horizontal ph fh (read .across-row) (room .across-size) (room .across-most) in
-        let v = rows-asked vertical pv verticals fv above below (read .down-row) (p .verticals-held) (p .verticals-size) a b (room .down-size)
+        let h = columns-asked horizontal rh fh (read .across-row) (room .across-size) (room .across-most) in
+        let v = rows-asked vertical rv verticals fv above below (read .down-row) (p .verticals-held) (p .verticals-size) a b (room .down-size)
         (room .down-most) in
-        let d = both-asked diagonal pd diagonals fd above below (read .both-row) (p .diagonals-held) (p .diagonals-size) a b (room .both-size)
+        let d = both-asked diagonal rd diagonals fd above below (read .both-row) (p .diagonals-held) (p .diagonals-size) a b (room .both-size)
         (room .both-most) in
         record {
           across-size = new .across .size;
@@ -116,7 +116,7 @@ module _ {f : Frame} {i count : ℕ} {diagonals verticals ph pv pd : List ℤ} (
               let c = columns-most t count (entries-of fd) few (d .1 .0) x l u (room .both-most .each x l u) in
               omega (
                 arith,
-                rows-most count (with-columns pd t (entries-of fd)) (sized-as (d .1 .0) (omega arith) (omega arith) (omega arith))
+                rows-most count (with-columns rd t (entries-of fd)) (sized-as (d .1 .0) (omega arith) (omega arith) (omega arith))
                     (d .1 .1) (d .1 .2) x l u c,
               ));
         }

@@ -64,20 +64,20 @@ pub record Sums (f : Frame) (n i : ℕ) (fh fv fd : List ℤ) : Type 0 where
 
 -- what the sums of row i are formed from: the planes, and the half rows of r_H and r_D between four reflected entries on each side,
 -- that of r_V without
-pub record Sums-read (f : Frame) (i : ℕ) (diagonals verticals ph pv pd : List ℤ) : Type 0 where
+pub record Sums-read (f : Frame) (i : ℕ) (diagonals verticals rh rv rd : List ℤ) : Type 0 where
   pub planes : Second-reads f i diagonals verticals
-  pub across-row : Half (f .width) (chroma-start (f .phase) i) 0 (chroma-count f i + 8) (trials f horizontal i) ph
-  pub down-row : Half (f .width) (chroma-start (f .phase) i) 4 (chroma-count f i + 4) (trials f vertical i) pv
-  pub both-row : Half (f .width) (chroma-start (f .phase) i) 0 (chroma-count f i + 8) (trials f diagonal i) pd
+  pub across-row : Half (f .width) (chroma-start (f .phase) i) 0 (chroma-count f i + 8) (trials f horizontal i) rh
+  pub down-row : Half (f .width) (chroma-start (f .phase) i) 4 (chroma-count f i + 4) (trials f vertical i) rv
+  pub both-row : Half (f .width) (chroma-start (f .phase) i) 0 (chroma-count f i + 8) (trials f diagonal i) rd
 
 -- what the steps from s to t do, whatever the frame
-pub record Widens (shape : Shape) (i s t : ℕ) (diagonals verticals ph pv pd fh fv fd new-fh new-fv new-fd : List ℤ) : Type 0 where
-  pub step : (zs : List ℕ) → Sums-read (frame shape zs) i diagonals verticals ph pv pd → Sums (frame shape zs) s i fh fv fd
+pub record Widens (shape : Shape) (i s t : ℕ) (diagonals verticals rh rv rd fh fv fd new-fh new-fv new-fd : List ℤ) : Type 0 where
+  pub step : (zs : List ℕ) → Sums-read (frame shape zs) i diagonals verticals rh rv rd → Sums (frame shape zs) s i fh fv fd
       → Sums (frame shape zs) t i new-fh new-fv new-fd
 
 -- all steps
-pub record Summed (shape : Shape) (i n : ℕ) (diagonals verticals ph pv pd fh fv fd : List ℤ) : Type 0 where
-  pub row : (zs : List ℕ) → Sums-read (frame shape zs) i diagonals verticals ph pv pd → Sums (frame shape zs) n i fh fv fd
+pub record Summed (shape : Shape) (i n : ℕ) (diagonals verticals rh rv rd fh fv fd : List ℤ) : Type 0 where
+  pub row : (zs : List ℕ) → Sums-read (frame shape zs) i diagonals verticals rh rv rd → Sums (frame shape zs) n i fh fv fd
 
 -- ---- sizes
 

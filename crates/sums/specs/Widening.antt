@@ -16,32 +16,32 @@ use Rattle.sums.specs.Sums.{column-sum-to, entries-of, with-columns, wit
 use Rattle.sums.specs.Steps.{middle, sum-none, columns-next, rows-next}
 
 -- what the code leaves of the three half rows of sums in step t
-pub record Stepped (t up down count : ℕ) (diagonals verticals ph pv pd fh fv fd new-fh new-fv new-fd : List ℤ) : Type 0 where
-  pub across : Entries (pos 0) 2064 4 (count + 4) (with-columns ph t (entries-of fh)) new-fh
-  pub down-columns : Entries (pos 0) 2064 4 (count + 4) (with-rows pv verticals up down (entries-of fv)) new-fv
-  pub both : Entries (pos 0) 2064 4 (count + 4) (with-both pd t diagonals up down (entries-of fd)) new-fd
+pub record Stepped (t up down count : ℕ) (diagonals verticals rh rv rd fh fv fd new-fh new-fv new-fd : List ℤ) : Type 0 where
+  pub across : Entries (pos 0) 2064 4 (count + 4) (with-columns rh t (entries-of fh)) new-fh
+  pub down-columns : Entries (pos 0) 2064 4 (count + 4) (with-rows rv verticals up down (entries-of fv)) new-fv
+  pub both : Entries (pos 0) 2064 4 (count + 4) (with-both rd t diagonals up down (entries-of fd)) new-fd
 
 none-beside : (n : ℕ) → n ≡ n + 0
 none-beside n = omega arith
 
-module _ (f : Frame) (i n count up down above below : ℕ) (diagonals verticals ph pv pd fh fv fd new-fh new-fv new-fd : List ℤ)
+module _ (f : Frame) (i n count up down above below : ℕ) (diagonals verticals rh rv rd fh fv fd new-fh new-fv new-fd : List ℤ)
     (few : suc n ≤ 4) (same : count ≡ chroma-count f i) (ea : above ≡ reflect (f .height) (subℕ i (2 * suc n)))
     (eb : below ≡ reflect (f .height) (pos (i + 2 * suc n))) (eu : up ≡ above * f .width) (ed : down ≡ below * f .width)
-    (read : Sums-read f i diagonals verticals ph pv pd)
-    (new : Stepped (suc n) up down count diagonals verticals ph pv pd fh fv fd new-fh new-fv new-fd) where
+    (read : Sums-read f i diagonals verticals rh rv rd)
+    (new : Stepped (suc n) up down count diagonals verticals rh rv rd fh fv fd new-fh new-fv new-fd) where
   step-next : Sums f n i fh fv fd → Sums f (suc n) i new-fh new-fv new-fd
   step-next old = let p = read .planes in record {
     across = entries-as (new .across) (omega arith) (omega arith) (λ x a b.
-        columns-next f (p .taken) i (p .inside) (trials f horizontal) n few x a (omega arith) ph (entries-of fh) _ _ 0 (read .across-row)
+        columns-next f (p .taken) i (p .inside) (trials f horizontal) n few x a (omega arith) rh (entries-of fh) _ _ 0 (read .across-row)
         (old .across .at x a (omega arith)) (none-beside _) (none-beside _));
     down = entries-as (new .down-columns) (omega arith) (omega arith) (λ x a b.
-        rows-next f (p .taken) i (p .inside) (trials f vertical) n few x a (omega arith) pv verticals (entries-of fv) up down above below _ _ 0
+        rows-next f (p .taken) i (p .inside) (trials f vertical) n few x a (omega arith) rv verticals (entries-of fv) up down above below _ _ 0
         (read .down-row) (p .verticals-held) ea eb eu ed (old .down .at x a (omega arith)) (none-beside _) (none-beside _));
     both = entries-as (new .both) (omega arith) (omega arith) (λ x a b.
-        rows-next f (p .taken) i (p .inside) (trials f diagonal) n few x a (omega arith) pd diagonals (with-columns pd (suc n) (entries-of fd))
+        rows-next f (p .taken) i (p .inside) (trials f diagonal) n few x a (omega arith) rd diagonals (with-columns rd (suc n) (entries-of fd))
         up down above below _ _ (column-sum-to (suc n) (around-entry f (trials f diagonal) i x)) (middle (chroma-count f i) (read .both-row))
         (p .diagonals-held) ea eb eu ed
-        (columns-next f (p .taken) i (p .inside) (trials f diagonal) n few x a (omega arith) pd (entries-of fd) _ _
+        (columns-next f (p .taken) i (p .inside) (trials f diagonal) n few x a (omega arith) rd (entries-of fd) _ _
         (column-sum-to n (exchanged (around-entry f (trials f diagonal) i x))) (read .both-row) (old .both .at x a (omega arith)) refl refl)
         (omega arith) (omega arith));
   }
@@ -50,16 +50,16 @@ module _ (shape : Shape) (i count : ℕ) (e : count ≡ half-count (shape .width
   pub count-is : (zs : List ℕ) → count ≡ chroma-count (frame shape zs) i
   count-is zs = e ∙ chroma-count-is (frame shape zs) i (chroma-start (shape .phase) i) refl
 
-  pub widens : (t up down above below : ℕ) (diagonals verticals ph pv pd fh fv fd new-fh new-fv new-fd : List ℤ) → 1 ≤ t → t ≤ 4
+  pub widens : (t up down above below : ℕ) (diagonals verticals rh rv rd fh fv fd new-fh new-fv new-fd : List ℤ) → 1 ≤ t → t ≤ 4
       → above ≡ reflect (shape .height) (subℕ i (2 * t)) → below ≡ reflect (shape .height) (pos (i + 2 * t)) → up ≡ above * shape .width
       → down ≡ below * shape .width
-      → Stepped t up down count diagonals verticals ph pv pd fh fv fd new-fh new-fv new-fd
-      → Widens shape i (t - 1) t diagonals verticals ph pv pd fh fv fd new-fh new-fv new-fd
-  widens zero up down above below diagonals verticals ph pv pd fh fv fd new-fh new-fv new-fd one few ea eb eu ed new = absurd (omega arith)
-  widens (suc n) up down above below diagonals verticals ph pv pd fh fv fd new-fh new-fv new-fd one few ea eb eu ed new = record {
+      → Stepped t up down count diagonals verticals rh rv rd fh fv fd new-fh new-fv new-fd
+      → Widens shape i (t - 1) t diagonals verticals rh rv rd fh fv fd new-fh new-fv new-fd
+  widens zero up down above below diagonals verticals rh rv rd fh fv fd new-fh new-fv new-fd one few ea eb eu ed new = absurd (omega arith)
+  widens (suc n) up down above below diagonals verticals rh rv rd fh fv fd new-fh new-fv new-fd one few ea eb eu ed new = record {
     step = λ zs read old.
         let m : suc n - 1 ≡ n = omega arith in
-        step-next (frame shape zs) i n count up down above below diagonals verticals ph pv pd fh fv fd new-fh new-fv new-fd few
+        step-next (frame shape zs) i n count up down above below diagonals verticals rh rv rd fh fv fd new-fh new-fv new-fd few
         (count-is zs) ea eb eu ed read new (subst (λ (k : ℕ). Sums (frame shape zs) k i fh fv fd) m old);
   }
 
@@ -77,15 +77,15 @@ module _ (shape : Shape) (i count : ℕ) (e : count ≡ half-count (shape .width
             ap pos (omega (arith, sum-none r, sum-none (exchanged r))));
       }
 
-module _ {shape : Shape} {i : ℕ} {diagonals verticals ph pv pd : List ℤ} where
-  pub widens-none : {s : ℕ} {fh fv fd : List ℤ} → Widens shape i s s diagonals verticals ph pv pd fh fv fd fh fv fd
+module _ {shape : Shape} {i : ℕ} {diagonals verticals rh rv rd : List ℤ} where
+  pub widens-none : {s : ℕ} {fh fv fd : List ℤ} → Widens shape i s s diagonals verticals rh rv rd fh fv fd fh fv fd
   widens-none = record { step = λ zs r s. s }
 
-  pub widens-then : {s t r : ℕ} {fh fv fd gh gv gd kh kv kd : List ℤ} → Widens shape i s t diagonals verticals ph pv pd fh fv fd gh gv gd
-      → Widens shape i t r diagonals verticals ph pv pd gh gv gd kh kv kd → Widens shape i s r diagonals verticals ph pv pd fh fv fd kh kv kd
+  pub widens-then : {s t r : ℕ} {fh fv fd gh gv gd kh kv kd : List ℤ} → Widens shape i s t diagonals verticals rh rv rd fh fv fd gh gv gd
+      → Widens shape i t r diagonals verticals rh rv rd gh gv gd kh kv kd → Widens shape i s r diagonals verticals rh rv rd fh fv fd kh kv kd
   widens-then x y = record { step = λ zs r s. y .step zs r (x .step zs r s) }
 
-  pub widens-to : {s t r : ℕ} {fh fv fd gh gv gd : List ℤ} → Widens shape i s t diagonals verticals ph pv pd fh fv fd gh gv gd → t ≡ r
-      → Widens shape i s r diagonals verticals ph pv pd fh fv fd gh gv gd
+  pub widens-to : {s t r : ℕ} {fh fv fd gh gv gd : List ℤ} → Widens shape i s t diagonals verticals rh rv rd fh fv fd gh gv gd → t ≡ r
+      → Widens shape i s r diagonals verticals rh rv rd fh fv fd gh gv gd
   widens-to {s} {t} {r} {fh} {fv} {fd} {gh} {gv} {gd} x e =
-      subst (λ (m : ℕ). Widens shape i s m diagonals verticals ph pv pd fh fv fd gh gv gd) e x
+      subst (λ (m : ℕ). Widens shape i s m diagonals verticals rh rv rd fh fv fd gh gv gd) e x

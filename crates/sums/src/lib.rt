@@ -107,24 +107,24 @@ fn add_both(
 }
 
 // One step of the three sums: t columns and t rows of the same colour further.
-fn add_ring(
+fn add_step(
     diagonals: &[i32],
     verticals: &[i32],
     shape: Shape,
     i: usize,
     count: usize,
     t: usize,
-    ph: &[i32; 2064],
-    pv: &[i32; 2064],
-    pd: &[i32; 2064],
+    rh: &[i32; 2064],
+    rv: &[i32; 2064],
+    rd: &[i32; 2064],
     fh: &mut [i32; 2064],
     fv: &mut [i32; 2064],
     fd: &mut [i32; 2064],
 )
-    requires { ⌜ Some-samples (λ (zs : List ℕ). Sums-read (frame shape zs) i (now diagonals) (now verticals) (now ph) (now pv) (now pd)) ⌝ }
+    requires { ⌜ Some-samples (λ (zs : List ℕ). Sums-read (frame shape zs) i (now diagonals) (now verticals) (now rh) (now rv) (now rd)) ⌝ }
     requires { ⌜ (count ≡ half-count (shape .width) (chroma-start (shape .phase) i)) × (1 ≤ t) × (t ≤ 4) ⌝ }
     requires { ⌜ Sums-room ((t - 1) * 131040) count (now fh) (now fv) (now fd) ⌝ }
-    ensures { λ _. ⌜ Widens shape i (t - 1) t (now (diagonals .entry)) (now (verticals .entry)) (now (ph .entry)) (now (pv .entry)) (now (pd .entry))
+    ensures { λ _. ⌜ Widens shape i (t - 1) t (now (diagonals .entry)) (now (verticals .entry)) (now (rh .entry)) (now (rv .entry)) (now (rd .entry))
         (now (fh .entry)) (now (fv .entry)) (now (fd .entry)) (now (fh .exit)) (now (fv .exit)) (now (fd .exit)) ⌝ }
     ensures { λ _. ⌜ Sums-room (t * 131040) count (now (fh .exit)) (now (fv .exit)) (now (fd .exit)) ⌝ }
 {
@@ -132,45 +132,45 @@ fn add_ring(
     let h = shape.height;
     let up = positions::reflected_less(h, i, 2 * t) * w;
     let down = positions::reflected(h, i + 2 * t) * w;
-    add_columns(ph, t, fh, count);
-    add_rows(pv, verticals, up, down, fv, count);
-    add_both(pd, t, diagonals, up, down, fd, count);
+    add_columns(rh, t, fh, count);
+    add_rows(rv, verticals, up, down, fv, count);
+    add_both(rd, t, diagonals, up, down, fd, count);
 }
 
 // All steps, from 1 to reach.
-fn add_rings(
+fn add_steps(
     diagonals: &[i32],
     verticals: &[i32],
     shape: Shape,
     i: usize,
     count: usize,
     reach: usize,
-    ph: &[i32; 2064],
-    pv: &[i32; 2064],
-    pd: &[i32; 2064],
+    rh: &[i32; 2064],
+    rv: &[i32; 2064],
+    rd: &[i32; 2064],
     fh: &mut [i32; 2064],
     fv: &mut [i32; 2064],
     fd: &mut [i32; 2064],
 )
-    requires { ⌜ Some-samples (λ (zs : List ℕ). Sums-read (frame shape zs) i (now diagonals) (now verticals) (now ph) (now pv) (now pd)) ⌝ }
+    requires { ⌜ Some-samples (λ (zs : List ℕ). Sums-read (frame shape zs) i (now diagonals) (now verticals) (now rh) (now rv) (now rd)) ⌝ }
     requires { ⌜ (count ≡ half-count (shape .width) (chroma-start (shape .phase) i)) × (reach ≤ 4) ⌝ }
     requires { ⌜ Sums-room 0 count (now fh) (now fv) (now fd) ⌝ }
-    ensures { λ _. ⌜ Widens shape i 0 reach (now (diagonals .entry)) (now (verticals .entry)) (now (ph .entry)) (now (pv .entry)) (now (pd .entry))
+    ensures { λ _. ⌜ Widens shape i 0 reach (now (diagonals .entry)) (now (verticals .entry)) (now (rh .entry)) (now (rv .entry)) (now (rd .entry))
         (now (fh .entry)) (now (fv .entry)) (now (fd .entry)) (now (fh .exit)) (now (fv .exit)) (now (fd .exit)) ⌝ }
     ensures { λ _. ⌜ Sums-room 524160 count (now (fh .exit)) (now (fv .exit)) (now (fd .exit)) ⌝ }
 {
     let mut t = 1;
     while t < reach + 1 {
-        add_ring(
+        add_step(
             diagonals,
             verticals,
             shape,
             i,
             count,
             t,
-            ph,
-            pv,
-            pd,
+            rh,
+            rv,
+            rd,
             fh,
             fv,
             fd,
@@ -187,33 +187,33 @@ pub fn sum_row(
     i: usize,
     count: usize,
     reach: usize,
-    ph: &[i32; 2064],
-    pv: &[i32; 2064],
-    pd: &[i32; 2064],
+    rh: &[i32; 2064],
+    rv: &[i32; 2064],
+    rd: &[i32; 2064],
     fh: &mut [i32; 2064],
     fv: &mut [i32; 2064],
     fd: &mut [i32; 2064],
 )
-    requires { ⌜ Some-samples (λ (zs : List ℕ). Sums-read (frame shape zs) i (now diagonals) (now verticals) (now ph) (now pv) (now pd)) ⌝ }
+    requires { ⌜ Some-samples (λ (zs : List ℕ). Sums-read (frame shape zs) i (now diagonals) (now verticals) (now rh) (now rv) (now rd)) ⌝ }
     requires { ⌜ (count ≡ half-count (shape .width) (chroma-start (shape .phase) i)) × (reach ≤ 4) ⌝ }
     requires { ⌜ (length (now fh) ≡ 2064) × (length (now fv) ≡ 2064) × (length (now fd) ≡ 2064) ⌝ }
-    ensures { λ _. ⌜ Summed shape i reach (now (diagonals .entry)) (now (verticals .entry)) (now (ph .entry)) (now (pv .entry)) (now (pd .entry))
+    ensures { λ _. ⌜ Summed shape i reach (now (diagonals .entry)) (now (verticals .entry)) (now (rh .entry)) (now (rv .entry)) (now (rd .entry))
         (now (fh .exit)) (now (fv .exit)) (now (fd .exit)) ⌝ }
     ensures { λ _. ⌜ Sums-room 524160 count (now (fh .exit)) (now (fv .exit)) (now (fd .exit)) ⌝ }
 {
     clear(fh, count);
     clear(fv, count);
     clear(fd, count);
-    add_rings(
+    add_steps(
         diagonals,
         verticals,
         shape,
         i,
         count,
         reach,
-        ph,
-        pv,
-        pd,
+        rh,
+        rv,
+        rd,
         fh,
         fv,
         fd,

@@ -8,7 +8,7 @@ use lib.ListN.{length, getD}
 use Rattle.toolkit.specs.Tests.{by-test, ltb-lt, ltb-ge}
 use Rattle.frame.specs.Sites.{Frame}
 use Rattle.positions.specs.Taken.{Taken}
-use Rattle.positions.specs.Rings.{ring-row}
+use Rattle.positions.specs.Rings.{place-in-ring}
 use Rattle.positions.specs.RingLaws.{ring-apart}
 use Rattle.records.specs.TurnLaws.{stored-elsewhere}
 use Rattle.mosaic_rows.specs.LoadedRows.{Loaded}
@@ -45,31 +45,31 @@ along-same z z' k h same = rw (
 
 module _ {f : Frame} {t : ℕ} {rows rows' alongs alongs' : List ℕ} (taken : Taken f) (line : Line-loaded f t rows rows' alongs alongs') where
   -- what stands at another place is as it was
-  row-elsewhere : (r k : ℕ) → ¬ (ring-row r ≡ ring-row t) → ring-row r * 4112 ≤ k → k < ring-row r * 4112 + 4112 → getD rows' k 0 ≡ getD rows k 0
-  row-elsewhere r k other = stored-elsewhere 4112 (ring-row t) (ring-row r) (line .row-stored) (omega arith) (omega (arith, taken .narrow)) other k
+  row-elsewhere : (r k : ℕ) → ¬ (place-in-ring r ≡ place-in-ring t) → place-in-ring r * 4112 ≤ k → k < place-in-ring r * 4112 + 4112 → getD rows' k 0 ≡ getD rows k 0
+  row-elsewhere r k other = stored-elsewhere 4112 (place-in-ring t) (place-in-ring r) (line .row-stored) (omega arith) (omega (arith, taken .narrow)) other k
 
-  sum-elsewhere : (r k : ℕ) → ¬ (ring-row r ≡ ring-row t) → ring-row r * 4112 ≤ k → k < ring-row r * 4112 + 4112
+  sum-elsewhere : (r k : ℕ) → ¬ (place-in-ring r ≡ place-in-ring t) → place-in-ring r * 4112 ≤ k → k < place-in-ring r * 4112 + 4112
       → getD alongs' k 0 ≡ getD alongs k 0
-  sum-elsewhere r k other = stored-elsewhere 4112 (ring-row t) (ring-row r) (line .sums-stored) (omega arith) (omega (arith, taken .narrow)) other k
+  sum-elsewhere r k other = stored-elsewhere 4112 (place-in-ring t) (place-in-ring r) (line .sums-stored) (omega arith) (omega (arith, taken .narrow)) other k
 
-  row-next : (r : ℕ) → t < r + 24 → r ≤ t → (r < t → Loaded f r (ring-row r * 4112) rows) → Loaded f r (ring-row r * 4112) rows'
+  row-next : (r : ℕ) → t < r + 24 → r ≤ t → (r < t → Loaded f r (place-in-ring r * 4112) rows) → Loaded f r (place-in-ring r * 4112) rows'
   row-next r a b old = by-test (ltb r t) _
       (λ u.
       let c : r < t = ltb-lt _ _ u in
       record {
-        entry = λ x h. row-elsewhere r (ring-row r * 4112 + x) (ring-apart r t c a) (omega arith) (omega (arith, taken .narrow)) ∙ old c .entry x h;
+        entry = λ x h. row-elsewhere r (place-in-ring r * 4112 + x) (ring-apart r t c a) (omega arith) (omega (arith, taken .narrow)) ∙ old c .entry x h;
       })
       (λ u. let e : r ≡ t = omega (arith, ltb-ge r t u) in rw e (loaded (line .row-stored)))
 
-  sum-next : (r : ℕ) → t < r + 24 → r ≤ t → (r < t → Summed (f .width) (ring-row r * 4112) rows alongs)
-      → Summed (f .width) (ring-row r * 4112) rows' alongs'
+  sum-next : (r : ℕ) → t < r + 24 → r ≤ t → (r < t → Summed (f .width) (place-in-ring r * 4112) rows alongs)
+      → Summed (f .width) (place-in-ring r * 4112) rows' alongs'
   sum-next r a b old = by-test (ltb r t) _
       (λ u.
       let c : r < t = ltb-lt _ _ u in
       let other = ring-apart r t c a in
       record {
-        entry = λ k h. sum-elsewhere r (ring-row r * 4112 + 6 + k) other (omega arith) (omega (arith, taken .narrow)) ∙ (old c .entry k h
-            ∙ sym (along-same rows rows' (ring-row r * 4112 + 6 + k) (omega arith)
+        entry = λ k h. sum-elsewhere r (place-in-ring r * 4112 + 6 + k) other (omega arith) (omega (arith, taken .narrow)) ∙ (old c .entry k h
+            ∙ sym (along-same rows rows' (place-in-ring r * 4112 + 6 + k) (omega arith)
             (λ x l m. row-elsewhere r x other (omega arith) (omega (arith, taken .narrow)))));
       })
       (λ u. let e : r ≡ t = omega (arith, ltb-ge r t u) in rw e (record { entry = line .sums-stored .inside }))

@@ -1,5 +1,5 @@
 -- `admission::highest` meets its contract. The invariant: what is found so far, and what is still to come, has the same highest. Assumes nothing.
-use mathlib.Core.Path.{_≡_, refl, sym, _∙_}
+use mathlib.Core.Path.{_≡_}
 use mathlib.Core.Logic.{⊎-elim}
 use Prim.Native.Nat.{_-_, max}
 use lib.ListN.{length, drop}

@@ -6,7 +6,7 @@ use lib.ListN.{getD}
 use native.Mathlib.Omega.{arith}
 use borrow.Author.Needs.{needs}
 use Rattle.toolkit.specs.Entries.{entries-as}
-use Rattle.positions.specs.Rings.{ring-row}
+use Rattle.positions.specs.Rings.{place-in-ring}
 use Rattle.records.specs.Layout.{record-size, south-part}
 use Rattle.half_rows.specs.Norths.{north-of-tops, north-of-work, south-inside}
 use Rattle.half_rows.proofs.north.Statement.{statement}
@@ -51,7 +51,7 @@ returns-2 : tie.Need-returns-2
 returns-2 c =
     let a = c .before .before .before .before .args in
     entries-as (c .copy2 .ensures) (omega arith) (omega arith) (λ x l h.
-    let e : c .before .before .south-at .result + a .at + (x - 4) ≡ ring-row (a .i - 2) * record-size (a .w) + south-part (a .w) + (a .at + (x - 4)) =
+    let e : c .before .before .south-at .result + a .at + (x - 4) ≡ place-in-ring (a .i - 2) * record-size (a .w) + south-part (a .w) + (a .at + (x - 4)) =
     omega (arith, c .before .before .south-at .ensures) in
     ap (λ (k : ℕ). getD (a .work .now) k (pos 0)) e
     ∙ sym (north-of-work (a .tops .now) (a .work .now) (a .w) (a .i) (a .at + (x - 4)) (c .before .before .before .if1 .left)))

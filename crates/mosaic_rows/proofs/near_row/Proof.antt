@@ -3,7 +3,7 @@ use mathlib.Core.Path.{_∙_, ap}
 use Prim.Native.Nat.{ℕ, _*_}
 use native.Mathlib.Omega.{arith}
 use borrow.Author.Needs.{needs}
-use Rattle.positions.specs.Rings.{ring-row}
+use Rattle.positions.specs.Rings.{place-in-ring}
 use Rattle.mosaic_rows.specs.LoadedRows.{near-entry}
 use Rattle.mosaic_rows.proofs.near_row.Statement.{statement}
 use Rattle.mosaic_rows.proofs.near_row.Tie as tie
@@ -22,7 +22,7 @@ row-at-requires c κs =
 
 returns : tie.Need-returns
 unfolding near-entry
-returns c = c .row-at .ensures .0 ∙ ap (λ (r : ℕ). ring-row r * 4112) (c .before .reflected-less .ensures .0)
+returns c = c .row-at .ensures .0 ∙ ap (λ (r : ℕ). place-in-ring r * 4112) (c .before .reflected-less .ensures .0)
 
 pub near-row-spec : {M : Type 1} → statement M
 near-row-spec = tie.close (tie.spec add-reflected-less reflected-less-requires row-at-requires returns)

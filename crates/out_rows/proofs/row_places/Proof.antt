@@ -3,7 +3,7 @@ use borrow.Author.Needs.{needs}
 use mathlib.Core.Path.{refl, _∙_, ap}
 use Prim.Native.Nat.{ℕ, _+_, _*_}
 use Rattle.positions.specs.HalfRowLaws.{count-high}
-use Rattle.positions.specs.Rings.{ring-row}
+use Rattle.positions.specs.Rings.{place-in-ring}
 use Rattle.records.specs.Layout.{record-size, final-part, other-part}
 use Rattle.out_rows.specs.PlaceLaws.{south-record, north-record}
 use Rattle.out_rows.proofs.row_places.Statement.{statement}
@@ -86,10 +86,10 @@ returns c =
       south-is = ap (λ (x : ℕ). x + count .half-count .result) (south .south-at .ensures);
       finals-is = finals .final-at .ensures;
       others-is = others .other-at .ensures;
-      finals-south-is = below-finals .final-at2 .ensures ∙ ap (λ (r : ℕ). ring-row r * record-size w + final-part w) (down .reflected .ensures .0);
-      finals-north-is = above-finals .final-at3 .ensures ∙ ap (λ (r : ℕ). ring-row r * record-size w + final-part w) (up .reflected-less .ensures .0);
-      others-south-is = below-others .other-at2 .ensures ∙ ap (λ (r : ℕ). ring-row r * record-size w + other-part w) (down .reflected .ensures .0);
-      others-north-is = above-others .other-at3 .ensures ∙ ap (λ (r : ℕ). ring-row r * record-size w + other-part w) (up .reflected-less .ensures .0);
+      finals-south-is = below-finals .final-at2 .ensures ∙ ap (λ (r : ℕ). place-in-ring r * record-size w + final-part w) (down .reflected .ensures .0);
+      finals-north-is = above-finals .final-at3 .ensures ∙ ap (λ (r : ℕ). place-in-ring r * record-size w + final-part w) (up .reflected-less .ensures .0);
+      others-south-is = below-others .other-at2 .ensures ∙ ap (λ (r : ℕ). place-in-ring r * record-size w + other-part w) (down .reflected .ensures .0);
+      others-north-is = above-others .other-at3 .ensures ∙ ap (λ (r : ℕ). place-in-ring r * record-size w + other-part w) (up .reflected-less .ensures .0);
     }
 
 pub row-places-spec : {M : Type 1} → statement M

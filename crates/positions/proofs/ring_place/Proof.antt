@@ -1,6 +1,6 @@
 -- `positions::ring_place` meets its contract. Assumes nothing.
 use borrow.Author.Needs.{needs}
-use Rattle.positions.specs.Rings.{ring-row}
+use Rattle.positions.specs.Rings.{place-in-ring}
 use Rattle.positions.proofs.ring_place.Statement.{statement}
 use Rattle.positions.proofs.ring_place.Tie as tie
 
@@ -11,11 +11,11 @@ sub-result : tie.Need-sub-result
 sub-result c = search needs
 
 returns : tie.Need-returns
-unfolding ring-row
+unfolding place-in-ring
 returns c = search needs
 
 returns-2 : tie.Need-returns-2
-unfolding ring-row
+unfolding place-in-ring
 returns-2 c = search needs
 
 pub ring-place-spec : {M : Type 1} → statement M

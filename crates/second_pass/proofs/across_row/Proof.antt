@@ -13,45 +13,45 @@ use Rattle.second_pass.proofs.across_row.Statement.{statement}
 use Rattle.second_pass.proofs.across_row.Tie as tie
 
 abbrev Inv-loop : tie.InvT-loop
-Inv-loop pd pv ph₀ count k₀ ph k = (k ≤ count) × Entries (pos 0) 2064 4 (k + 4) (across-entry pd pv) ph
+Inv-loop rd rv rh₀ count k₀ rh k = (k ≤ count) × Entries (pos 0) 2064 4 (k + 4) (across-entry rd rv) rh
 
 abbrev μ-loop : tie.MeasureT-loop
-μ-loop pd pv ph₀ count k₀ ph k = count - k
+μ-loop rd rv rh₀ count k₀ rh k = count - k
 
 -- the sizes of the numbers of a turn
 module _ (c : tie.In-loop Inv-loop μ-loop) where
-  both-small : natAbs (getD (c .before .before .args .pd .now) (c .before .loop .k + 4) (pos 0)) ≤ 32760
+  both-small : natAbs (getD (c .before .before .args .rd .now) (c .before .loop .k + 4) (pos 0)) ≤ 32760
   both-small = c .before .before .pre .1 .0 .each (c .before .loop .k + 4) (omega arith) (omega arith)
 
-  down-small : natAbs (getD (c .before .before .args .pv .now) (c .before .loop .k + 4) (pos 0)) ≤ 32760
+  down-small : natAbs (getD (c .before .before .args .rv .now) (c .before .loop .k + 4) (pos 0)) ≤ 32760
   down-small = c .before .before .pre .1 .1 .each (c .before .loop .k + 4) (omega arith) (omega arith)
 
 loop-holds : tie.Need-loop-holds Inv-loop μ-loop
 loop-holds c = (omega arith, entries-none (c .pre .0 .1))
 
-add-ph : tie.Need-add-ph Inv-loop μ-loop
-add-ph c = search needs
+add-rh : tie.Need-add-rh Inv-loop μ-loop
+add-rh c = search needs
 
-mul-ph : tie.Need-mul-ph Inv-loop μ-loop
-mul-ph c = search needs
+mul-rh : tie.Need-mul-rh Inv-loop μ-loop
+mul-rh c = search needs
 
-element-copy-out-ph : tie.Need-element-copy-out-ph Inv-loop μ-loop
-element-copy-out-ph c = search needs
+element-copy-out-rh : tie.Need-element-copy-out-rh Inv-loop μ-loop
+element-copy-out-rh c = search needs
 
-mul-ph-2 : tie.Need-mul-ph-2 Inv-loop μ-loop
-mul-ph-2 c = let h = both-small (c .before) in fits (search vals depth 30) tt
+mul-rh-2 : tie.Need-mul-rh-2 Inv-loop μ-loop
+mul-rh-2 c = let h = both-small (c .before) in fits (search vals depth 30) tt
 
-add-ph-2 : tie.Need-add-ph-2 Inv-loop μ-loop
-add-ph-2 c = search needs
+add-rh-2 : tie.Need-add-rh-2 Inv-loop μ-loop
+add-rh-2 c = search needs
 
-mul-ph-3 : tie.Need-mul-ph-3 Inv-loop μ-loop
-mul-ph-3 c = search needs
+mul-rh-3 : tie.Need-mul-rh-3 Inv-loop μ-loop
+mul-rh-3 c = search needs
 
-element-copy-out-ph-2 : tie.Need-element-copy-out-ph-2 Inv-loop μ-loop
-element-copy-out-ph-2 c = search needs
+element-copy-out-rh-2 : tie.Need-element-copy-out-rh-2 Inv-loop μ-loop
+element-copy-out-rh-2 c = search needs
 
-sub-ph : tie.Need-sub-ph Inv-loop μ-loop
-sub-ph c = let h = both-small (c .before .before) in let v = down-small (c .before .before) in fits (search vals depth 30) tt
+sub-rh : tie.Need-sub-rh Inv-loop μ-loop
+sub-rh c = let h = both-small (c .before .before) in let v = down-small (c .before .before) in fits (search vals depth 30) tt
 
 add-t19 : tie.Need-add-t19 Inv-loop μ-loop
 add-t19 c = search needs
@@ -59,8 +59,8 @@ add-t19 c = search needs
 mul-t20 : tie.Need-mul-t20 Inv-loop μ-loop
 mul-t20 c = search needs
 
-element-set-from-ph : tie.Need-element-set-from-ph Inv-loop μ-loop
-element-set-from-ph c = search needs
+element-set-from-rh : tie.Need-element-set-from-rh Inv-loop μ-loop
+element-set-from-rh c = search needs
 
 add-k : tie.Need-add-k Inv-loop μ-loop
 add-k c = search needs
@@ -85,17 +85,17 @@ across-row-spec =
     Inv-loop
     μ-loop
     loop-holds
-    add-ph
-    mul-ph
-    element-copy-out-ph
-    mul-ph-2
-    add-ph-2
-    mul-ph-3
-    element-copy-out-ph-2
-    sub-ph
+    add-rh
+    mul-rh
+    element-copy-out-rh
+    mul-rh-2
+    add-rh-2
+    mul-rh-3
+    element-copy-out-rh-2
+    sub-rh
     add-t19
     mul-t20
-    element-set-from-ph
+    element-set-from-rh
     add-k
     loop-less
     loop-again

@@ -17,11 +17,11 @@ use Rattle.second_pass.proofs.second_row.Statement.{statement}
 use Rattle.second_pass.proofs.second_row.Tie as tie
 
 abbrev Inv-loop : tie.InvT-loop
-Inv-loop ph pv pd fh fv fd out₀ at count k₀ out k =
-    (k ≤ count) × (length out ≡ length out₀) × Wrote (pos 0) at k (λ (x : ℕ). picked-entry ph pv pd fh fv fd (x + 4)) out₀ out
+Inv-loop rh rv rd fh fv fd out₀ at count k₀ out k =
+    (k ≤ count) × (length out ≡ length out₀) × Wrote (pos 0) at k (λ (x : ℕ). picked-entry rh rv rd fh fv fd (x + 4)) out₀ out
 
 abbrev μ-loop : tie.MeasureT-loop
-μ-loop ph pv pd fh fv fd out₀ at count k₀ out k = count - k
+μ-loop rh rv rd fh fv fd out₀ at count k₀ out k = count - k
 
 -- the sizes of the sums of a turn
 module _ (c : tie.In-loop Inv-loop μ-loop) where

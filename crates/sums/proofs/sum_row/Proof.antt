@@ -19,8 +19,8 @@ clear-requires-2 c κs = let s = c .before .before .before in (count-most s, s .
 clear-requires-3 : tie.Need-clear-requires-3
 clear-requires-3 c κs = let s = c .before .before .before .before .before in (count-most s, s .pre .1 .1 .2)
 
-add-rings-requires : tie.Need-add-rings-requires
-add-rings-requires c κs =
+add-steps-requires : tie.Need-add-steps-requires
+add-steps-requires c κs =
     let s = c .before .before .before .before .before .before .before .before .before in (
       s .pre .0,
       (
@@ -35,15 +35,15 @@ returns c =
     let s = c .before .before .before .before .before .before .before .before .before .before in
     let a = s .args in (
       record {
-        row = λ zs read. c .add-rings .ensures .0 .step zs read
+        row = λ zs read. c .add-steps .ensures .0 .step zs read
             (sums-none (a .shape) (a .i) (a .count) (s .pre .1 .0 .0) _ _ _
             (c .before .before .before .before .before .before .before .before .clear .ensures)
             (c .before .before .before .before .before .before .clear2 .ensures) (c .before .before .before .before .clear3 .ensures) zs);
       },
-      c .add-rings .ensures .1,
+      c .add-steps .ensures .1,
     )
 
 pub sum-row-spec : {M : Type 1} → statement M
 sum-row-spec =
     tie.close
-    (tie.spec clear-requires clear-requires-2 clear-requires-3 add-rings-requires returns)
+    (tie.spec clear-requires clear-requires-2 clear-requires-3 add-steps-requires returns)

@@ -1,4 +1,4 @@
--- `sums::add_ring` meets its contract. One step of the three sums (`widens`). Assumes nothing.
+-- `sums::add_step` meets its contract. One step of the three sums (`widens`). Assumes nothing.
 use mathlib.Core.Path.{_≡_, refl}
 use Prim.Native.Nat.{_*_}
 use native.Mathlib.Omega.{arith}
@@ -8,8 +8,8 @@ use Rattle.positions.specs.HalfRows.{chroma-count}
 use Rattle.sums.specs.Widening.{Stepped, count-is, widens}
 use Rattle.sums.specs.Room.{columns-asked, rows-asked, both-asked, row-place, before, room-next}
 use borrow.Author.Needs.{needs}
-use Rattle.sums.proofs.add_ring.Statement.{statement}
-use Rattle.sums.proofs.add_ring.Tie as tie
+use Rattle.sums.proofs.add_step.Statement.{statement}
+use Rattle.sums.proofs.add_step.Tie as tie
 
 -- the frame whose numbers the rows are
 module _ (c : tie.Start) where
@@ -78,7 +78,7 @@ returns c =
     let up = c .before .before .before .before .before .before .before .reflected-less in
     let down = c .before .before .before .before .before .before .reflected in
     let new : Stepped (a .t) (up .result * a .shape .width) (down .result * a .shape .width) (a .count) (a .diagonals .now)
-    (a .verticals .now) (a .ph .now) (a .pv .now) (a .pd .now) (a .fh .now) (a .fv .now) (a .fd .now) _ _ _ = record {
+    (a .verticals .now) (a .rh .now) (a .rv .now) (a .rd .now) (a .fh .now) (a .fv .now) (a .fd .now) _ _ _ = record {
       across = c .before .before .before .before .add-columns .ensures;
       down-columns = c .before .before .add-rows .ensures;
       both = c .add-both .ensures;
@@ -91,8 +91,8 @@ returns c =
           (s .pre .1 .1) new,
     )
 
-pub add-ring-spec : {M : Type 1} → statement M
-add-ring-spec =
+pub add-step-spec : {M : Type 1} → statement M
+add-step-spec =
     tie.close
     (tie.spec
     mul-reflected-less
