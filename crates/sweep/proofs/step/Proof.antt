@@ -123,70 +123,10 @@ out-turn-requires c κs =
       ),
     )
 
-same-length : tie.Need-same-length
-same-length c =
-    let out = c .before .before .before in
-    let diagonal = diagonal-of out in
-    let enhance = enhance-of diagonal in
-    let second = second-of enhance in
-    let first = first-of second in
-    let start = start-of (load-of first) in
-    (step-made (start .pre .1 .3) (mosaic-of (load-of first)) (start .pre .0) (first .first-turn .ensures .0) (second .second-turn .ensures .0)
-    (enhance .enhance-turn .ensures .0) (diagonal .diagonal-turn .ensures .0) (out .out-turn .ensures .0) (out .out-turn .ensures .1 .0)
-    (out .out-turn .ensures .1 .1 .0)) .buffers .tops-size
-    ∙ sym (start .pre .0 .buffers .tops-size)
+-- ---- what the turns have made
 
-same-length-2 : tie.Need-same-length-2
-same-length-2 c =
-    let out = c .before .before .before in
-    let diagonal = diagonal-of out in
-    let enhance = enhance-of diagonal in
-    let second = second-of enhance in
-    let first = first-of second in
-    let start = start-of (load-of first) in
-    (step-made (start .pre .1 .3) (mosaic-of (load-of first)) (start .pre .0) (first .first-turn .ensures .0) (second .second-turn .ensures .0)
-    (enhance .enhance-turn .ensures .0) (diagonal .diagonal-turn .ensures .0) (out .out-turn .ensures .0) (out .out-turn .ensures .1 .0)
-    (out .out-turn .ensures .1 .1 .0)) .buffers .work-size
-    ∙ sym (start .pre .0 .buffers .work-size)
-
-same-length-3 : tie.Need-same-length-3
-same-length-3 c =
-    let out = c .before .before .before in
-    let diagonal = diagonal-of out in
-    let enhance = enhance-of diagonal in
-    let second = second-of enhance in
-    let first = first-of second in
-    let start = start-of (load-of first) in
-    (step-made (start .pre .1 .3) (mosaic-of (load-of first)) (start .pre .0) (first .first-turn .ensures .0) (second .second-turn .ensures .0)
-    (enhance .enhance-turn .ensures .0) (diagonal .diagonal-turn .ensures .0) (out .out-turn .ensures .0) (out .out-turn .ensures .1 .0)
-    (out .out-turn .ensures .1 .1 .0)) .red-size
-    ∙ sym (start .pre .0 .red-size)
-
-same-length-4 : tie.Need-same-length-4
-same-length-4 c =
-    let out = c .before .before .before in
-    let diagonal = diagonal-of out in
-    let enhance = enhance-of diagonal in
-    let second = second-of enhance in
-    let first = first-of second in
-    let start = start-of (load-of first) in
-    (step-made (start .pre .1 .3) (mosaic-of (load-of first)) (start .pre .0) (first .first-turn .ensures .0) (second .second-turn .ensures .0)
-    (enhance .enhance-turn .ensures .0) (diagonal .diagonal-turn .ensures .0) (out .out-turn .ensures .0) (out .out-turn .ensures .1 .0)
-    (out .out-turn .ensures .1 .1 .0)) .green-size
-    ∙ sym (start .pre .0 .green-size)
-
-same-length-5 : tie.Need-same-length-5
-same-length-5 c =
-    let out = c .before .before .before in
-    let diagonal = diagonal-of out in
-    let enhance = enhance-of diagonal in
-    let second = second-of enhance in
-    let first = first-of second in
-    let start = start-of (load-of first) in
-    (step-made (start .pre .1 .3) (mosaic-of (load-of first)) (start .pre .0) (first .first-turn .ensures .0) (second .second-turn .ensures .0)
-    (enhance .enhance-turn .ensures .0) (diagonal .diagonal-turn .ensures .0) (out .out-turn .ensures .0) (out .out-turn .ensures .1 .0)
-    (out .out-turn .ensures .1 .1 .0)) .blue-size
-    ∙ sym (start .pre .0 .blue-size)
+abbrev entry-of : tie.After-blue2 → tie.Start
+entry-of c = start-of (load-of (first-of (second-of (enhance-of (diagonal-of (c .before .before .before))))))
 
 returns : tie.Need-returns
 returns c =
@@ -202,6 +142,21 @@ returns c =
           (out .out-turn .ensures .1 .1 .0),
       (mosaic-of (load-of first), record { v-size = rows .v-size; gradients-size = rows .gradients-size }, out .out-turn .ensures .1 .1 .1),
     )
+
+same-length : tie.Need-same-length
+same-length c = returns c .0 .buffers .tops-size ∙ sym (entry-of c .pre .0 .buffers .tops-size)
+
+same-length-2 : tie.Need-same-length-2
+same-length-2 c = returns c .0 .buffers .work-size ∙ sym (entry-of c .pre .0 .buffers .work-size)
+
+same-length-3 : tie.Need-same-length-3
+same-length-3 c = returns c .0 .red-size ∙ sym (entry-of c .pre .0 .red-size)
+
+same-length-4 : tie.Need-same-length-4
+same-length-4 c = returns c .0 .green-size ∙ sym (entry-of c .pre .0 .green-size)
+
+same-length-5 : tie.Need-same-length-5
+same-length-5 c = returns c .0 .blue-size ∙ sym (entry-of c .pre .0 .blue-size)
 
 pub step-spec : {M : Type 1} → statement M
 step-spec =
