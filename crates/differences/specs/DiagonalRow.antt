@@ -13,6 +13,7 @@ use Rattle.method.specs.Gradients.{mosaic}
 use Rattle.method.specs.Four.{directions, sizes}
 use Rattle.method.specs.Planes.{weighted-mean, diagonally, corners, corner-gradients, chroma-site-difference}
 use Rattle.method.specs.Sizes.{At-most, around-size, final-difference-size}
+use Rattle.method.specs.ColourLaws.{directions-path}
 use Rattle.positions.specs.Taken.{Taken}
 use Rattle.positions.specs.Rings.{place-in-ring}
 use Rattle.positions.specs.RingLaws.{ring-end}
@@ -27,8 +28,8 @@ use Rattle.records.specs.Stages.{Lent, Diagonal-reads}
 use Rattle.half_rows.specs.Sources.{source-entry, north-entry}
 use Rattle.half_rows.specs.Mirror.{mirrored}
 use Rattle.half_rows.specs.Near.{north-step, north-odd, south-odd, half-around, half-of-row}
+use Rattle.half_rows.specs.GradientRow.{Gradient-row, start-small, count-is, gradients-are}
 use Rattle.differences.specs.Rows.{corners-read, corner-mean-read, Values-fit}
-use Rattle.differences.specs.GradientRow.{same-directions, Gradient-row, start-small, count-is, gradients-are}
 
 on-one : (c k : ℕ) → c ≤ 1 → subℕ (1 - c + 2 * (k + c + 4)) 8 ≡ pos (c + 2 * k) +ℤ pos 1
 on-one c k h = simp to-naturals (omega arith)
@@ -152,7 +153,7 @@ module _ {f : Frame} {i base c count above below : ℕ} {tops work n copied-up u
 
     four-corners : directions (corners-read up down c k) ≡ corners (around (f .height) (f .width) (finals f) i (c + 2 * k))
     unfolding corners diagonally
-    four-corners = same-directions north-east north-west south-east south-west
+    four-corners = directions-path north-east north-west south-east south-west
 
     around-small : (r o : ℤ) → natAbs (around (f .height) (f .width) (finals f) i (c + 2 * k) r o) ≤ 4092
     unfolding finals mosaic

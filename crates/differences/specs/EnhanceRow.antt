@@ -16,6 +16,7 @@ use Rattle.method.specs.Gradients.{mosaic}
 use Rattle.method.specs.Four.{directions, sizes}
 use Rattle.method.specs.Planes.{weighted-mean, straight, mean-two-off, fused, final-difference}
 use Rattle.method.specs.Sizes.{At-most, around-size, green-difference-size, mean-size}
+use Rattle.method.specs.ColourLaws.{directions-path}
 use Rattle.positions.specs.Taken.{Taken}
 use Rattle.positions.specs.Places.{plane-row}
 use Rattle.positions.specs.Near.{near-north, near-south}
@@ -29,8 +30,8 @@ use Rattle.records.specs.Stages.{Plane-size, Enhance-reads}
 use Rattle.half_rows.specs.Sources.{source-entry, north-entry}
 use Rattle.half_rows.specs.Mirror.{mirrored}
 use Rattle.half_rows.specs.Near.{north-step, north-even, south-even, half-near, half-around, half-of-row, row-near-even}
+use Rattle.half_rows.specs.GradientRow.{Gradient-row, start-small, count-is, site-inside, gradients-are}
 use Rattle.differences.specs.Rows.{straight-read, straight-mean-read, Values-fit, Half-fit}
-use Rattle.differences.specs.GradientRow.{same-directions, Gradient-row, start-small, count-is, site-inside, gradients-are}
 
 on-two : (c k : ℕ) → subℕ (c + 2 * (k + 5)) 8 ≡ pos (c + 2 * k) +ℤ pos 2
 on-two c k = simp to-naturals (omega arith)
@@ -131,7 +132,7 @@ module _ {f : Frame} {i base c count below above : ℕ} {tops work green n copie
     four-two-off : directions (straight-read l green (below * f .width) (above * f .width) k)
         ≡ straight 2 (around (f .height) (f .width) (greens f) i (c + 2 * k))
     unfolding straight
-    four-two-off = same-directions east west south north
+    four-two-off = directions-path east west south north
 
     around-small : (r o : ℤ) → natAbs (around (f .height) (f .width) (greens f) i (c + 2 * k) r o) ≤ 8184
     unfolding greens mosaic

@@ -1,4 +1,3 @@
 pub mod Rows
-pub mod GradientRow
 pub mod EnhanceRow
 pub mod DiagonalRow

@@ -2,10 +2,10 @@
 use mathlib.Core.List.{List, [], _∷_}
 use Prim.Native.Nat.{ℕ, _+_, _<_, _≤_}
 use lib.IntN.{ℤ, pos, natAbs}
-use lib.ListN.{length, getD}
+use lib.ListN.{getD}
 use Rattle.method.specs.Four.{directions, sizes}
 use Rattle.method.specs.Planes.{weighted-mean, corner-gradients}
-use Rattle.method.specs.Sizes.{At-most, Naturals}
+use Rattle.method.specs.Sizes.{At-most}
 use Rattle.half_rows.specs.Sources.{four-entries}
 
 -- the values of entry k: one entry on and one back in a half row, and in two rows of a plane
@@ -26,14 +26,6 @@ straight-mean-read work east south n row plane below above k =
 abbrev pub corner-mean-read : List ℤ → ℕ → ℕ → List ℤ → List ℤ → List ℤ → ℕ → ℕ → ℤ
 corner-mean-read work east south n up down c k =
     weighted-mean (directions (corners-read up down c k)) (corner-gradients (sizes (directions (four-entries work east south n k))))
-
--- gradients of count sites that a mean may be formed under, and the room that they are read in
-pub record Gradients-fit (count east south : ℕ) (work n : List ℤ) : Type 0 where
-  pub few : count ≤ 2048
-  pub east-in : east + count + 1 ≤ length work
-  pub south-in : south + count ≤ length work
-  pub most : length work ≤ 67108864
-  pub each : (k : ℕ) → k < count → Naturals 40920 (four-entries work east south n k)
 
 -- values that are at most m
 pub record Values-fit (m count : ℕ) (values : ℕ → List ℤ) : Type 0 where

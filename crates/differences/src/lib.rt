@@ -12,7 +12,8 @@ ghost use Rattle.method.specs.Planes.{fused};
 ghost use Rattle.positions.specs.Taken.{Some-samples};
 ghost use Rattle.records.specs.Stages.{Enhance-reads, Enhance-stores, Diagonal-reads, Diagonal-stores};
 ghost use Rattle.differences.specs.Rows.{straight-read, corners-read, straight-mean-read, corner-mean-read};
-ghost use Rattle.differences.specs.Rows.{Gradients-fit, Values-fit, Half-fit};
+ghost use Rattle.half_rows.specs.Sources.{Gradients-fit};
+ghost use Rattle.differences.specs.Rows.{Values-fit, Half-fit};
 
 // M of entry k.
 fn straight_mean(

@@ -4,7 +4,7 @@ use mathlib.Core.List.{List}
 use Prim.Native.Nat.{ℕ, _+_, _<_, _≤_}
 use native.Mathlib.Omega.{arith}
 use lib.IntN.{ℤ, pos, natAbs, _+ℤ_, _-ℤ_, _*ℤ_}
-use lib.ListN.{length, getD}
+use lib.ListN.{getD}
 use lib.Signed.{_≤ℤ_, _<ℤ_}
 use Rattle.toolkit.specs.Differences.{as-difference}
 use Rattle.toolkit.specs.Orders.{to-naturals}
@@ -12,9 +12,8 @@ use Rattle.toolkit.specs.Rounding.{floor-div, floor-low, floor-high, floor-is}
 use Rattle.frame.specs.Sites.{Around}
 use Rattle.method.specs.Gradients.{FourDirections}
 use Rattle.method.specs.Four.{directions, sizes}
-use Rattle.method.specs.Sizes.{Naturals}
 use Rattle.method.specs.Green.{Direction, horizontal, vertical, diagonal, Outcome, estimate, half, first-pass, first-pass-or, less-eight}
-use Rattle.half_rows.specs.Sources.{four-entries}
+use Rattle.half_rows.specs.Sources.{four-entries, Gradients-fit}
 use Rattle.first_pass.specs.declared.FirstPass.{FirstPass}
 use Rattle.first_pass.specs.declared.FirstPass.the-variants.{Equal, Across, Down, Weak}
 use Rattle.first_pass.specs.Outcomes.{outcome-of, settled}
@@ -36,11 +35,7 @@ site-trial d work east south n a b k =
 
 -- what a row of trials reads
 pub record Trial-reads (east south count : ℕ) (work n a b : List ℤ) : Type 0 where
-  pub few : count ≤ 2048
-  pub east-inside : east + count < length work
-  pub south-inside : south + count ≤ length work
-  pub work-most : length work ≤ 67108864
-  pub gradients : (k : ℕ) → k < count → Naturals 40920 (four-entries work east south n k)
+  pub gradients : Gradients-fit count east south work n
   pub across-small : (k : ℕ) → k < count → natAbs (getD a (k + 4) (pos 0)) ≤ 8184
   pub down-small : (k : ℕ) → k < count → natAbs (getD b (k + 4) (pos 0)) ≤ 8184
 

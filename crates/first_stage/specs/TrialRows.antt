@@ -1,5 +1,5 @@
 -- What `trial_row` reads and stores, for the frame whose rows are loaded. Assumes nothing.
-use mathlib.Core.Path.{_≡_, refl, sym, _∙_, ap}
+use mathlib.Core.Path.{_≡_, _∙_, ap}
 use mathlib.Core.List.{List}
 use Prim.Native.Nat.{ℕ, _+_, _*_, _-_, _<_, _≤_}
 use native.Mathlib.Omega.{arith}
@@ -9,18 +9,16 @@ use Rattle.toolkit.specs.Entries.{Entries}
 use Rattle.toolkit.specs.Writes.{Wrote, wrote-as}
 use Rattle.frame.specs.Sites.{Frame}
 use Rattle.method.specs.Gradients.{mosaic, gradients-at}
-use Rattle.method.specs.Four.{directions, sizes, listed}
-use Rattle.method.specs.Sizes.{listed-naturals}
+use Rattle.method.specs.Four.{directions, sizes}
 use Rattle.method.specs.Green.{Direction}
 use Rattle.positions.specs.Rings.{place-in-ring}
-use Rattle.positions.specs.HalfRows.{half-count, chroma-count, chroma-row}
-use Rattle.positions.specs.HalfRowLaws.{count-column, count-high, count-most, chroma-small}
+use Rattle.positions.specs.HalfRows.{half-count, chroma-row}
+use Rattle.positions.specs.HalfRowLaws.{chroma-small}
 use Rattle.records.specs.Layout.{record-size, south-part}
 use Rattle.records.specs.Quantities.{trials}
 use Rattle.records.specs.Stages.{Chroma-stored}
-use Rattle.half_rows.specs.Sources.{north-entry, four-entries}
-use Rattle.half_rows.specs.Near.{chroma-count-is}
-use Rattle.half_rows.specs.SiteGradients.{gradients-most, record-end, work-most, site-gradients-first}
+use Rattle.half_rows.specs.Sources.{north-entry}
+use Rattle.half_rows.specs.GradientRow.{Gradient-row, count-is, site-inside, four-are, gradients-fit}
 use Rattle.first_pass.specs.Lines.{across-difference, down-difference, Small-rows, across-reads, down-reads, line-size}
 use Rattle.first_pass.specs.Trials.{tried, site-trial, Trial-reads}
 use Rattle.first_pass.specs.FrameTrials.{loaded-small, across-of, down-of, trial-is}
@@ -43,17 +41,12 @@ module _ (f : Frame) (i base c count east south : ℕ) (at rows : List ℕ) (top
     (norths-row : Entries (pos 0) 2064 4 (count + 4) (λ (x : ℕ). north-entry tops work (f .width) i (0 + (x - 4))) n)
     (across-row : Entries (pos 0) 2064 4 (count + 4) (λ (x : ℕ). across-difference at rows (c + 2 * (x - 4) + 8)) a)
     (down-row : Entries (pos 0) 2064 4 (count + 4) (λ (x : ℕ). down-difference at rows (c + 2 * (x - 4) + 8)) b) where
-  count-is : count ≡ chroma-count f i
-  count-is = ec ∙ chroma-count-is f i c (r .start)
+  gradient-row : Gradient-row f i base c count tops work n
+  gradient-row = record { lent = r .lent; gradients = r .gradients; start = r .start; sites = ec; north-row = norths-row }
 
   module _ (k : ℕ) (inside : k < count) where
     column-inside : c + 2 * k < f .width
-    column-inside = count-column (f .width) c k (start-low f i base c at rows tops work r) (omega arith)
-
-    four-is : four-entries work east south n k ≡ listed (gradients-at (mosaic f) i (c + 2 * k))
-    four-is =
-        site-gradients-first f i tops work (r .gradients) n east south count 0 k ee es count-is refl norths-row (omega (arith, count-is))
-        ∙ ap (λ (x : ℕ). listed (gradients-at (mosaic f) i (x + 2 * k))) (sym (r .start))
+    column-inside = site-inside gradient-row k inside
 
     across-at : getD a (k + 4) (pos 0) ≡ across-difference at rows (c + 2 * k + 8)
     across-at =
@@ -79,7 +72,8 @@ module _ (f : Frame) (i base c count east south : ℕ) (at rows : List ℕ) (top
     trial-at : (d : Direction) → site-trial d work east south n a b k ≡ chroma-row f (trials f d) i k
     unfolding chroma-row trials
     trial-at d =
-        ap (λ (g : List ℤ). tried d (sizes (directions g)) (getD a (k + 4) (pos 0)) (getD b (k + 4) (pos 0))) four-is
+        ap (λ (g : List ℤ). tried d (sizes (directions g)) (getD a (k + 4) (pos 0)) (getD b (k + 4) (pos 0)))
+        (four-are gradient-row east south ee es k inside)
         ∙ (same (across-at ∙ across-of f i (c + 2 * k) at rows (r .seven) column-inside)
         (down-at ∙ down-of f i (c + 2 * k) at rows (r .seven) column-inside)
         ∙ (trial-is f d i (c + 2 * k) (r .lent .taken) (r .lent .inside) column-inside
@@ -90,19 +84,12 @@ module _ (f : Frame) (i base c count east south : ℕ) (at rows : List ℕ) (top
         same p q = rw (p, q)
 
   pub trial-reads : Trial-reads east south count work n a b
-  trial-reads =
-      let end = record-end f i base tops work (r .lent) in
-      let wide = r .lent .taken .wide in
-      record {
-        few = omega (arith, count-most (f .width) c (r .lent .taken .narrow));
-        east-inside = omega (arith, end, wide, count-high (f .width) c);
-        south-inside = omega (arith, end, wide, count-high (f .width) c);
-        work-most = work-most f i base tops work (r .lent);
-        gradients = λ k h. listed-naturals (gradients-at (mosaic f) i (c + 2 * k)) (four-is k h) (gradients-most f i (c + 2 * k) (r .lent .taken));
-        across-small = across-size;
-        down-small = down-size;
-      }
+  trial-reads = record {
+    gradients = gradients-fit gradient-row east south ee es;
+    across-small = across-size;
+    down-small = down-size;
+  }
 
   pub trials-stored : (d : Direction) {old new : List ℤ} → Wrote (pos 0) (i * f .width) count (site-trial d work east south n a b) old new
       → Chroma-stored f (trials f d) i old new
-  trials-stored d w = wrote-as w count-is (λ k h. trial-at k h d)
+  trials-stored d w = wrote-as w (count-is gradient-row) (λ k h. trial-at k h d)

@@ -4,3 +4,4 @@ pub mod Mirror
 pub mod Norths
 pub mod Near
 pub mod SiteGradients
+pub mod GradientRow

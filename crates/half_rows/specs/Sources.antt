@@ -2,10 +2,11 @@
 use mathlib.Core.Path.{_≡_}
 use mathlib.Core.Bool.{cond}
 use mathlib.Core.List.{List, [], _∷_}
-use Prim.Native.Nat.{ℕ, _+_, _*_, _-_, _/_, _≤_}
+use Prim.Native.Nat.{ℕ, _+_, _*_, _-_, _/_, _<_, _≤_}
 use lib.Dec.{ltb}
 use lib.IntN.{ℤ, pos}
 use lib.ListN.{length, getD}
+use Rattle.method.specs.Sizes.{Naturals}
 use Rattle.positions.specs.Columns.{column-at}
 use Rattle.positions.specs.Rings.{place-in-ring, Round}
 use Rattle.records.specs.Layout.{record-size, south-part, top-size}
@@ -23,6 +24,14 @@ north-entry tops work W i k =
 abbrev pub four-entries : List ℤ → ℕ → ℕ → List ℤ → ℕ → List ℤ
 four-entries work east south n k =
     getD work (east + k + 1) (pos 0) ∷ getD work (east + k) (pos 0) ∷ getD work (south + k) (pos 0) ∷ getD n (k + 4) (pos 0) ∷ []
+
+-- what `four` is asked for count sites, and that what it reads is four gradients
+pub record Gradients-fit (count east south : ℕ) (work n : List ℤ) : Type 0 where
+  pub few : count ≤ 2048
+  pub east-in : east + count + 1 ≤ length work
+  pub south-in : south + count ≤ length work
+  pub most : length work ≤ 67108864
+  pub each : (k : ℕ) → k < count → Naturals 40920 (four-entries work east south n k)
 
 -- what `north` is lent: tops, the records of the rows before row i, and a half row for the entries at to at + count − 1 of row i
 pub record North-room (W i base at count : ℕ) (tops work n : List ℤ) : Type 0 where

@@ -5,8 +5,8 @@ use lib.IntN.{ℤ, pos, natAbs}
 use lib.ListN.{length, getD}
 use Rattle.method.specs.Four.{directions, sizes}
 use Rattle.method.specs.Planes.{weighted-mean}
-use Rattle.method.specs.Sizes.{At-most, Naturals}
-use Rattle.half_rows.specs.Sources.{four-entries}
+use Rattle.method.specs.Sizes.{At-most}
+use Rattle.half_rows.specs.Sources.{four-entries, Gradients-fit}
 use Rattle.out_rows.specs.declared.Places.{Places}
 
 -- n entries of a half row are at most m in size
@@ -38,15 +38,11 @@ other-mean p work n other k = mean-at p work n (other-values p work other k) k
 
 -- what a row of means reads
 pub record Direct-reads (p : Places) (work n own other : List ℤ) : Type 0 where
-  pub few : p .rest ≤ 2048
+  pub gradients : Gradients-fit (p .rest) (p .east) (p .south) work n
   pub start-small : p .start ≤ 1
-  pub east-inside : p .east + p .rest < length work
-  pub south-inside : p .south + p .rest ≤ length work
   pub finals-south-inside : p .below .finals + p .rest ≤ length work
   pub finals-north-inside : p .above .finals + p .rest ≤ length work
   pub others-south-inside : p .below .others + p .rest ≤ length work
   pub others-north-inside : p .above .others + p .rest ≤ length work
-  pub work-most : length work ≤ 67108864
-  pub gradients : (k : ℕ) → k < p .rest → Naturals 40920 (four-entries work (p .east) (p .south) n k)
   pub own-small : (k : ℕ) → k < p .rest → At-most 4096 (sizes (directions (own-values p work own k)))
   pub other-small : (k : ℕ) → k < p .rest → At-most 4096 (sizes (directions (other-values p work other k)))

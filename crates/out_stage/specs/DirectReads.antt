@@ -147,16 +147,18 @@ module _ (shape : Shape) (zs : List ℕ) (i : ℕ) (p : Places) (placed : Placed
       -- what the row of means asks
       pub direct-reads : Direct-reads p work n own other
       direct-reads = record {
-        few = rest-few (taken .narrow);
+        gradients = record {
+          few = rest-few (taken .narrow);
+          east-in = omega (arith, placed .east-is, placed .rest-is, count-inside, record-end _ _ _ _ _ lent, taken .wide);
+          south-in = omega (arith, placed .south-is, placed .rest-is, count-inside, record-end _ _ _ _ _ lent, taken .wide);
+          most = work-most _ _ _ _ _ lent;
+          each = λ k l. listed-naturals _ (gradients-are k l) (gradients-most (frame shape zs) i _ taken);
+        };
         start-small = start-small;
-        east-inside = omega (arith, placed .east-is, placed .rest-is, count-inside, record-end _ _ _ _ _ lent, taken .wide);
-        south-inside = omega (arith, placed .south-is, placed .rest-is, count-inside, record-end _ _ _ _ _ lent, taken .wide);
         finals-south-inside = rw (placed .finals-south-is) (final-room (shape .width) (p .rest) _ _ (taken .wide) rest-room (row-room _ (in-frame _)));
         finals-north-inside = rw (placed .finals-north-is) (final-room (shape .width) (p .rest) _ _ (taken .wide) rest-room (row-room _ (in-frame _)));
         others-south-inside = rw (placed .others-south-is) (other-room (shape .width) (p .rest) _ _ (taken .wide) rest-room (row-room _ (in-frame _)));
         others-north-inside = rw (placed .others-north-is) (other-room (shape .width) (p .rest) _ _ (taken .wide) rest-room (row-room _ (in-frame _)));
-        work-most = work-most _ _ _ _ _ lent;
-        gradients = λ k l. listed-naturals _ (gradients-are k l) (gradients-most (frame shape zs) i _ taken);
         own-small = λ k l. subst (λ (v : FourDirections ℤ). At-most 4096 (sizes v)) (sym (own-beside k l))
             (four-beside-size (frame shape zs) taken _ _ i _ (finals-size (frame shape zs) taken) (others-size (frame shape zs) taken));
         other-small = λ k l. subst (λ (v : FourDirections ℤ). At-most 4096 (sizes v)) (sym (other-beside k l))

@@ -2,7 +2,7 @@
 use native.Mathlib.Omega.{arith}
 use Rattle.positions.specs.Near.{near-north, near-south}
 use Rattle.half_rows.specs.SiteGradients.{near-record, own-record, north-room, work-most}
-use Rattle.differences.specs.GradientRow.{sites-few, sites-inside, other-room, gradients-fit}
+use Rattle.half_rows.specs.GradientRow.{sites-few, sites-inside, other-room, gradients-fit}
 use Rattle.differences.specs.DiagonalRow.{rest-few, rest-room, row-one-off, diagonal-row, corner-values-fit, others-stored}
 use borrow.Author.Needs.{needs}
 use Rattle.differences.proofs.diagonal_line.Statement.{statement}

@@ -2,7 +2,7 @@
 use native.Mathlib.Omega.{arith}
 use Rattle.positions.specs.Places.{plane-row}
 use Rattle.half_rows.specs.SiteGradients.{own-record, north-room, work-most}
-use Rattle.differences.specs.GradientRow.{sites-few, sites-inside, final-room, gradients-fit}
+use Rattle.half_rows.specs.GradientRow.{sites-few, sites-inside, final-room, gradients-fit}
 use Rattle.differences.specs.EnhanceRow.{enhance-row, row-room, green-most, values-fit, differences-fit, means-fit, finals-stored}
 use borrow.Author.Needs.{needs}
 use Rattle.differences.proofs.enhance_line.Statement.{statement}

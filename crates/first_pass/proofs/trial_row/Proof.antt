@@ -32,7 +32,7 @@ four-requires c κs = search needs
 decide-requires : tie.Need-decide-requires Inv-loop μ-loop
 decide-requires c κs =
     let start = c .before .before .before in
-    rw (c .four .ensures) (start .pre .0 .gradients (c .before .before .loop .k) (c .before .loop-test .taken))
+    rw (c .four .ensures) (start .pre .0 .gradients .each (c .before .before .loop .k) (c .before .loop-test .taken))
 
 add-x : tie.Need-add-x Inv-loop μ-loop
 add-x c = search needs

@@ -78,7 +78,7 @@ direct-mean-requires c κs =
           (as-read {z = getD (a .own .now) (k + 4 - a .p .start) (pos 0)} (c .before .before .direct-mean-arg2 .given))
           (as-read {z = getD work (a .p .below .others + k) (pos 0)} (c .before .direct-mean-arg3 .given))
           (as-read {z = getD work (a .p .above .others + k) (pos 0)} (c .direct-mean-arg4 .given)) (reads .own-small k inside),
-      rw (c .before .before .before .before .four .ensures) (reads .gradients k inside),
+      rw (c .before .before .before .before .four .ensures) (reads .gradients .each k inside),
     )
 
 add-y : tie.Need-add-y Inv-loop μ-loop
@@ -131,7 +131,7 @@ direct-mean-requires-2 c κs =
           (as-read {z = getD (a .other .now) (k + 4 - a .p .start) (pos 0)} (c .before .before .direct-mean-arg6 .given))
           (as-read {z = getD work (a .p .below .finals + k) (pos 0)} (c .before .direct-mean-arg7 .given))
           (as-read {z = getD work (a .p .above .finals + k) (pos 0)} (c .direct-mean-arg8 .given)) (reads .other-small k inside),
-      rw (c .before .before .before .before .before .before .before .before .before .four .ensures) (reads .gradients k inside),
+      rw (c .before .before .before .before .before .before .before .before .before .four .ensures) (reads .gradients .each k inside),
     )
 
 add-t34 : tie.Need-add-t34 Inv-loop μ-loop
@@ -167,7 +167,7 @@ loop-again c =
     let a = start .args in
     let k = at-loop .loop .k in
     let back : k ≡ k + 4 - 4 = omega arith in
-    let room : k + 4 < 2064 = omega (arith, test .loop-test .taken, start .pre .0 .few) in
+    let room : k + 4 < 2064 = omega (arith, test .loop-test .taken, start .pre .0 .gradients .few) in
     let four-is = east .before .four .ensures in (
       omega (arith, test .loop-test .taken),
       entries-next (at-loop .loop .inv .1) room (omega arith)

@@ -1,4 +1,4 @@
--- The gradients of the red and blue sites of a row, as the means read them. Assumes nothing.
+-- The gradients of the red and blue sites of a row, as `four` reads them. Assumes nothing.
 use mathlib.Core.Path.{_≡_, refl, sym, _∙_, ap}
 use mathlib.Core.List.{List}
 use Prim.Native.Nat.{ℕ, _+_, _*_, _-_, _<_, _≤_}
@@ -7,7 +7,7 @@ use lib.IntN.{ℤ, pos}
 use lib.ListN.{length}
 use Rattle.toolkit.specs.Entries.{Entries}
 use Rattle.frame.specs.Sites.{Frame}
-use Rattle.method.specs.Gradients.{FourDirections, mosaic, gradients-at}
+use Rattle.method.specs.Gradients.{mosaic, gradients-at}
 use Rattle.method.specs.Four.{directions, sizes, listed}
 use Rattle.method.specs.Sizes.{listed-naturals}
 use Rattle.positions.specs.Rings.{place-in-ring}
@@ -15,15 +15,9 @@ use Rattle.positions.specs.HalfRows.{chroma-start, half-count, chroma-count}
 use Rattle.positions.specs.HalfRowLaws.{chroma-small, count-column, count-high, count-half, count-most}
 use Rattle.records.specs.Layout.{record-size, south-part, final-part, other-part}
 use Rattle.records.specs.Stages.{Gradients, Lent}
-use Rattle.half_rows.specs.Sources.{north-entry, four-entries}
+use Rattle.half_rows.specs.Sources.{north-entry, four-entries, Gradients-fit}
 use Rattle.half_rows.specs.Near.{chroma-count-is}
 use Rattle.half_rows.specs.SiteGradients.{gradients-most, record-end, work-most, site-gradients-first}
-use Rattle.differences.specs.Rows.{Gradients-fit}
-
--- four values that are the same one by one
-pub same-directions : {A : Type 0} {a b c d e f g h : A} → a ≡ e → b ≡ f → c ≡ g → d ≡ h
-    → _≡_ {A = FourDirections A} (record { east = a; west = b; south = c; north = d }) (record { east = e; west = f; south = g; north = h })
-same-directions p q r s = cc
 
 -- row i, its red and blue sites, and its N in a half row
 pub record Gradient-row (f : Frame) (i base c count : ℕ) (tops work n : List ℤ) : Type 0 where
@@ -63,7 +57,7 @@ module _ {f : Frame} {i base c count : ℕ} {tops work n : List ℤ} (row : Grad
   site-inside k h = count-column (f .width) c k start-small (omega (arith, row .sites))
 
   module _ (east south : ℕ) (e : east ≡ place-in-ring i * record-size (f .width)) (s : south ≡ place-in-ring i * record-size (f .width) + south-part (f .width)) where
-    four-are : (k : ℕ) → k < count → four-entries work east south n k ≡ listed (gradients-at (mosaic f) i (c + 2 * k))
+    pub four-are : (k : ℕ) → k < count → four-entries work east south n k ≡ listed (gradients-at (mosaic f) i (c + 2 * k))
     four-are k h =
         site-gradients-first f i tops work (row .gradients) n east south count 0 k e s count-is refl (row .north-row) (omega (arith, count-is))
         ∙ ap (λ (x : ℕ). listed (gradients-at (mosaic f) i (x + 2 * k))) (sym (row .start))
