@@ -1,5 +1,5 @@
 -- A row of final differences, from D of the rows i and two off. Assumes nothing.
-use mathlib.Core.Path.{_≡_, sym, _∙_, ap, ap₂}
+use mathlib.Core.Path.{_≡_, sym, _∙_, ap, ap₂, subst}
 use mathlib.Core.List.{List}
 use Prim.Native.Nat.{ℕ, _+_, _*_, _-_, _%_, _<_, _≤_, min}
 use native.Mathlib.Nat.{le-trans}
@@ -27,11 +27,19 @@ use Rattle.records.specs.Held.{Held}
 use Rattle.records.specs.Layout.{record-size, south-part}
 use Rattle.records.specs.Quantities.{greens, finals}
 use Rattle.records.specs.Stages.{Plane-size, Enhance-reads}
-use Rattle.half_rows.specs.Sources.{source-entry, north-entry}
+use Rattle.half_rows.specs.Sources.{Sized, source-entry, north-entry}
 use Rattle.half_rows.specs.Mirror.{mirrored}
 use Rattle.half_rows.specs.Near.{north-step, north-even, south-even, half-near, half-around, half-of-row, row-near-even}
 use Rattle.half_rows.specs.GradientRow.{Gradient-row, start-small, count-is, site-inside, gradients-are}
-use Rattle.differences.specs.Rows.{straight-read, straight-mean-read, Values-fit, Half-fit}
+use Rattle.differences.specs.Rows.{straight-read, straight-mean-read, Values-fit}
+
+-- site k of a half row stands at entry k + 4
+by-sites : {m n : ℕ} {row : List ℤ} → ((k : ℕ) → k < n → natAbs (getD row (k + 4) (pos 0)) ≤ m) → Sized m 4 (n + 4) row
+by-sites {m} {n} {row} each = record {
+  each = λ x low high.
+      let e : x - 4 + 4 ≡ x = omega arith in
+      subst (λ (y : ℕ). natAbs (getD row y (pos 0)) ≤ m) e (each (x - 4) (omega arith));
+}
 
 on-two : (c k : ℕ) → subℕ (c + 2 * (k + 5)) 8 ≡ pos (c + 2 * k) +ℤ pos 2
 on-two c k = simp to-naturals (omega arith)
@@ -161,8 +169,8 @@ module _ {f : Frame} {i base c count below above : ℕ} {tops work green n copie
   pub values-fit : Values-fit 8184 count (straight-read l green (below * f .width) (above * f .width))
   values-fit = record { each = values-small }
 
-  pub differences-fit : Half-fit 8192 count l
-  differences-fit = record { each = λ k h. le-trans (D-small k h) (lit≤ tt) }
+  pub differences-fit : Sized 8192 4 (count + 4) l
+  differences-fit = by-sites (λ k h. le-trans (D-small k h) (lit≤ tt))
 
   module _ (east south : ℕ) (e : east ≡ place-in-ring i * record-size (f .width)) (s : south ≡ place-in-ring i * record-size (f .width) + south-part (f .width)) (m : List ℤ)
       (means : Entries (pos 0) 2064 4 (count + 4)
@@ -173,8 +181,8 @@ module _ {f : Frame} {i base c count below above : ℕ} {tops work green n copie
         means .at (k + 4) (omega arith) (omega arith)
         ∙ ap (straight-mean-read work east south n l green (below * f .width) (above * f .width)) back
 
-    pub means-fit : Half-fit 8192 count m
-    means-fit = record { each = λ k h. rw (mean-at k h) (le-trans (mean-size 8184 _ _ (values-small k h)) (lit≤ tt)) }
+    pub means-fit : Sized 8192 4 (count + 4) m
+    means-fit = by-sites (λ k h. rw (mean-at k h) (le-trans (mean-size 8184 _ _ (values-small k h)) (lit≤ tt)))
 
     M-is : (k : ℕ) → k < count → getD m (k + 4) (pos 0) ≡ mean-two-off (mosaic f) i (c + 2 * k)
     unfolding mean-two-off greens mosaic

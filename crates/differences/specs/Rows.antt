@@ -1,7 +1,7 @@
 -- What the rows of means read, entry by entry. Definitions alone. Assumes nothing.
 use mathlib.Core.List.{List, [], _∷_}
 use Prim.Native.Nat.{ℕ, _+_, _<_, _≤_}
-use lib.IntN.{ℤ, pos, natAbs}
+use lib.IntN.{ℤ, pos}
 use lib.ListN.{getD}
 use Rattle.method.specs.Four.{directions, sizes}
 use Rattle.method.specs.Planes.{weighted-mean, corner-gradients}
@@ -30,7 +30,3 @@ corner-mean-read work east south n up down c k =
 -- values that are at most m
 pub record Values-fit (m count : ℕ) (values : ℕ → List ℤ) : Type 0 where
   pub each : (k : ℕ) → k < count → At-most m (sizes (directions (values k)))
-
--- the first entries of a half row are at most m in size
-pub record Half-fit (m count : ℕ) (row : List ℤ) : Type 0 where
-  pub each : (k : ℕ) → k < count → natAbs (getD row (k + 4) (pos 0)) ≤ m

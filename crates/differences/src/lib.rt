@@ -12,8 +12,8 @@ ghost use Rattle.method.specs.Planes.{fused};
 ghost use Rattle.positions.specs.Taken.{Some-samples};
 ghost use Rattle.records.specs.Stages.{Enhance-reads, Enhance-stores, Diagonal-reads, Diagonal-stores};
 ghost use Rattle.differences.specs.Rows.{straight-read, corners-read, straight-mean-read, corner-mean-read};
-ghost use Rattle.half_rows.specs.Sources.{Gradients-fit};
-ghost use Rattle.differences.specs.Rows.{Values-fit, Half-fit};
+ghost use Rattle.half_rows.specs.Sources.{Sized, Gradients-fit};
+ghost use Rattle.differences.specs.Rows.{Values-fit};
 
 // M of entry k.
 fn straight_mean(
@@ -68,7 +68,7 @@ fn straight_means(
 // The final differences of a row, from D and M.
 fn fuse_row(l: &[i32; 2064], m: &[i32; 2064], count: usize, work: &mut [i32], at: usize)
     requires { ⌜ (count ≤ 2048) × (at + count ≤ length (now work)) × (length (now work) ≤ 67108864) ⌝ }
-    requires { ⌜ (Half-fit 8192 count (now l)) × (Half-fit 8192 count (now m)) ⌝ }
+    requires { ⌜ (Sized 8192 4 (count + 4) (now l)) × (Sized 8192 4 (count + 4) (now m)) ⌝ }
     ensures { λ _. ⌜ Wrote (pos 0) at count
         (λ (k : ℕ). fused (getD (now (l .entry)) (k + 4) (pos 0)) (getD (now (m .entry)) (k + 4) (pos 0)))
         (now (work .entry)) (now (work .exit)) ⌝ }

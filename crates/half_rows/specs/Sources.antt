@@ -1,15 +1,19 @@
--- Which entries `mirror`, `north` and `four` read. Definitions alone. Assumes nothing.
+-- Which entries `mirror`, `north` and `four` read, and how large entries are. Definitions alone. Assumes nothing.
 use mathlib.Core.Path.{_≡_}
 use mathlib.Core.Bool.{cond}
 use mathlib.Core.List.{List, [], _∷_}
 use Prim.Native.Nat.{ℕ, _+_, _*_, _-_, _/_, _<_, _≤_}
 use lib.Dec.{ltb}
-use lib.IntN.{ℤ, pos}
+use lib.IntN.{ℤ, pos, natAbs}
 use lib.ListN.{length, getD}
 use Rattle.method.specs.Sizes.{Naturals}
 use Rattle.positions.specs.Columns.{column-at}
 use Rattle.positions.specs.Rings.{place-in-ring, Round}
 use Rattle.records.specs.Layout.{record-size, south-part, top-size}
+
+-- the entries from lo to hi − 1 are at most m in size
+pub record Sized (m lo hi : ℕ) (row : List ℤ) : Type 0 where
+  pub each : (x : ℕ) → lo ≤ x → x < hi → natAbs (getD row x (pos 0)) ≤ m
 
 -- the entry of a half row that holds the column of entry x, reflected
 unfoldable pub source-entry : ℕ → ℕ → ℕ → ℕ

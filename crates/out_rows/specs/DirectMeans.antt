@@ -1,17 +1,13 @@
 -- The means at the green sites of a row, as the loop reads their values. Definitions alone. Assumes nothing.
 use mathlib.Core.List.{List, [], _∷_}
 use Prim.Native.Nat.{ℕ, _+_, _-_, _<_, _≤_}
-use lib.IntN.{ℤ, pos, natAbs}
+use lib.IntN.{ℤ, pos}
 use lib.ListN.{length, getD}
 use Rattle.method.specs.Four.{directions, sizes}
 use Rattle.method.specs.Planes.{weighted-mean}
 use Rattle.method.specs.Sizes.{At-most}
 use Rattle.half_rows.specs.Sources.{four-entries, Gradients-fit}
 use Rattle.out_rows.specs.declared.Places.{Places}
-
--- n entries of a half row are at most m in size
-pub record Bounded (m n : ℕ) (row : List ℤ) : Type 0 where
-  pub each : (x : ℕ) → 4 ≤ x → x < n + 4 → natAbs (getD row x (pos 0)) ≤ m
 
 -- the values east and west of green site k, from the mirrored half row of the columns c, c + 2, .., and south and north of it
 abbrev pub beside-values : List ℤ → ℕ → List ℤ → ℕ → ℕ → ℕ → List ℤ

@@ -11,9 +11,10 @@ ghost use Rattle.method.specs.Four.{directions, sizes};
 ghost use Rattle.method.specs.Planes.{weighted-mean, final-round};
 ghost use Rattle.method.specs.Sizes.{At-most, Naturals};
 ghost use Rattle.positions.specs.Rings.{Round};
+ghost use Rattle.half_rows.specs.Sources.{Sized};
 ghost use Rattle.out_rows.specs.Woven.{woven};
 ghost use Rattle.out_rows.specs.RowPlaces.{Row-of, Placed};
-ghost use Rattle.out_rows.specs.DirectMeans.{Bounded, own-mean, other-mean, Direct-reads};
+ghost use Rattle.out_rows.specs.DirectMeans.{own-mean, other-mean, Direct-reads};
 
 // Where the differences of a row start in work: the final ones, and those of the other colour.
 pub struct Differences {
@@ -149,7 +150,7 @@ pub fn direct_means(
 
 // A colour at green sites: 4·G less its difference, which m holds, as an output.
 pub fn green_sites(z: &[i32; 2064], m: &mut [i32; 2064], count: usize)
-    requires { ⌜ (count ≤ 2048) × (length (now m) ≡ 2064) × (Bounded 4096 count (now z)) × (Bounded 4096 count (now m)) ⌝ }
+    requires { ⌜ (count ≤ 2048) × (length (now m) ≡ 2064) × (Sized 4096 4 (count + 4) (now z)) × (Sized 4096 4 (count + 4) (now m)) ⌝ }
     ensures { λ _. ⌜ Entries (pos 0) 2064 4 (count + 4) (λ (x : ℕ). final-round (pos 4 *ℤ getD (now (z .entry)) x (pos 0) -ℤ getD
         (now (m .entry)) x (pos 0))) (now (m .exit)) ⌝ }
 {
@@ -170,7 +171,7 @@ pub fn chroma_sites(
     count: usize,
 )
     requires { ⌜ (count ≤ 2048) × (length (now g) ≡ 2064) × (length (now y) ≡ 2064) ⌝ }
-    requires { ⌜ (Bounded 4096 count (now own)) × (Bounded 4096 count (now other)) × (Bounded 4096 count (now z)) ⌝ }
+    requires { ⌜ (Sized 4096 4 (count + 4) (now own)) × (Sized 4096 4 (count + 4) (now other)) × (Sized 4096 4 (count + 4) (now z)) ⌝ }
     ensures { λ _. ⌜ Entries (pos 0) 2064 4 (count + 4) (λ (x : ℕ). final-round (getD (now (own .entry)) x (pos 0) +ℤ pos 4 *ℤ getD
         (now (z .entry)) x (pos 0))) (now (g .exit)) ⌝ }
     ensures { λ _. ⌜ Entries (pos 0) 2064 4 (count + 4) (λ (x : ℕ). final-round (getD (now (own .entry)) x (pos 0) +ℤ pos 4 *ℤ getD

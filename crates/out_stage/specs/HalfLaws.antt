@@ -14,7 +14,7 @@ use Rattle.positions.specs.ColumnLaws.{column-inside, column-lt}
 use Rattle.positions.specs.HalfRows.{half-count, Half}
 use Rattle.positions.specs.HalfRowLaws.{column-parity}
 use Rattle.mosaic_rows.specs.LoadedRows.{Loaded}
-use Rattle.out_rows.specs.DirectMeans.{Bounded}
+use Rattle.half_rows.specs.Sources.{Sized}
 use Rattle.out_rows.specs.Woven.{woven}
 
 -- the same half row, its start and its count told otherwise
@@ -47,7 +47,7 @@ module _ (W c : ℕ) (wide : 2 ≤ W) where
       same : {x y z x' y' z' : ℤ} → x ≡ x' → y ≡ y' → z ≡ z' → op x y z ≡ op x' y' z'
       same e f g = rw (e, f, g)
 
-  pub half-bounded : (m n : ℕ) (q : ℕ → ℤ) {row : List ℤ} → ((j : ℕ) → j < W → natAbs (q j) ≤ m) → Half W c 4 (n + 4) q row → Bounded m n row
+  pub half-bounded : (m n : ℕ) (q : ℕ → ℤ) {row : List ℤ} → ((j : ℕ) → j < W → natAbs (q j) ≤ m) → Half W c 4 (n + 4) q row → Sized m 4 (n + 4) row
   half-bounded m n q small e = record { each = λ x l h. rw (e .at x l h) (small (column-at W (c + 2 * x)) (column-lt W (c + 2 * x) wide)) }
 
 -- the samples of a loaded row

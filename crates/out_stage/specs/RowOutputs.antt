@@ -20,7 +20,7 @@ use Rattle.positions.specs.HalfRows.{chroma-start, chroma-count, Half}
 use Rattle.positions.specs.HalfRowLaws.{chroma-small}
 use Rattle.records.specs.Quantities.{finals, others, outputs}
 use Rattle.records.specs.SiteColours.{row-colour, row-not-green, chroma-colour, second-half-green}
-use Rattle.out_rows.specs.DirectMeans.{Bounded}
+use Rattle.half_rows.specs.Sources.{Sized}
 use Rattle.out_stage.specs.SiteOutputs.{measured-output, green-output, other-output, missing-output, other-difference}
 use Rattle.out_stage.specs.DirectDifferences.{finals-size, others-size}
 use Rattle.out_stage.specs.RowDifferences.{chroma-columns, green-columns}
@@ -44,12 +44,12 @@ traded-not-green blue e = refl
 
 -- what the loops ask of the half rows
 pub record Row-bounded (n m : ℕ) (own other zx zg x y : List ℤ) : Type 0 where
-  pub own-small : Bounded 4096 n own
-  pub other-small : Bounded 4096 n other
-  pub zx-small : Bounded 4096 n zx
-  pub zg-small : Bounded 4096 m zg
-  pub x-small : Bounded 4096 m x
-  pub y-small : Bounded 4096 m y
+  pub own-small : Sized 4096 4 (n + 4) own
+  pub other-small : Sized 4096 4 (n + 4) other
+  pub zx-small : Sized 4096 4 (n + 4) zx
+  pub zg-small : Sized 4096 4 (m + 4) zg
+  pub x-small : Sized 4096 4 (m + 4) x
+  pub y-small : Sized 4096 4 (m + 4) y
 
 -- ---- a site of the row
 module _ (f : Frame) (i j : ℕ) where
@@ -130,7 +130,7 @@ module _ (f : Frame) (i at c n m : ℕ) (ec : c ≡ chroma-start (f .phase) i) (
   difference-size : (k : Colour) (j : ℕ) → j < f .width → natAbs (difference k j) ≤ 4096
   difference-size k j h = le-trans (colour-difference-size f (t .tall) (t .wide) (t .ranged) k i j (reads .inside) h) (lit≤ tt)
 
-  difference-bounded : (k : Colour) {row : List ℤ} → Green-half f i (colour-difference (mosaic f) k) row → Bounded 4096 m row
+  difference-bounded : (k : Colour) {row : List ℤ} → Green-half f i (colour-difference (mosaic f) k) row → Sized 4096 4 (m + 4) row
   difference-bounded k h = half-bounded (f .width) (1 - c) (t .wide) 4096 m (difference k) (difference-size k) (second (difference k) h)
 
   pub row-bounded : Row-bounded n m own other zx zg x y

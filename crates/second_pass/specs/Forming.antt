@@ -16,7 +16,8 @@ use Rattle.records.specs.Stages.{Second-reads}
 use Rattle.half_rows.specs.Sources.{source-entry}
 use Rattle.half_rows.specs.Mirror.{mirrored}
 use Rattle.half_rows.specs.Near.{chroma-count-is, half-of-row}
-use Rattle.sums.specs.Sums.{Held-near, Sums-read, Sized}
+use Rattle.half_rows.specs.Sources.{Sized}
+use Rattle.sums.specs.Sums.{Held-near, Sums-read}
 use Rattle.sums.specs.Sizes.{sized-as, row-sized}
 use Rattle.sums.specs.Room.{row-place}
 use Rattle.second_pass.specs.Picked.{across-entry}

@@ -11,7 +11,8 @@ ghost use Rattle.frame.specs.Sites.{frame};
 ghost use Rattle.positions.specs.Taken.{Some-samples};
 ghost use Rattle.positions.specs.HalfRows.{chroma-start, half-count};
 ghost use Rattle.records.specs.Stages.{Second-reads, Second-stores};
-ghost use Rattle.sums.specs.Sums.{Sized, Sums-room};
+ghost use Rattle.half_rows.specs.Sources.{Sized};
+ghost use Rattle.sums.specs.Sums.{Sums-room};
 ghost use Rattle.second_pass.specs.Picked.{picked, picked-entry, across-entry, Rows-formed};
 
 // r_H, of which r_D is the mean with r_V.

@@ -14,7 +14,8 @@ use Rattle.positions.specs.Places.{plane-row}
 use Rattle.records.specs.Quantities.{trials}
 use Rattle.records.specs.Stages.{Second-reads}
 use Rattle.half_rows.specs.Near.{chroma-count-is}
-use Rattle.sums.specs.Sums.{entries-of, with-columns, Held-near, Sums-read, Sized, Sums-room}
+use Rattle.half_rows.specs.Sources.{Sized}
+use Rattle.sums.specs.Sums.{entries-of, with-columns, Held-near, Sums-read, Sums-room}
 use Rattle.sums.specs.Nearby.{near-above, near-below}
 use Rattle.sums.specs.Sizes.{sized-as, entries-sized, row-sized, plane-sized, columns-most, rows-most}
 use Rattle.sums.specs.Steps.{middle}

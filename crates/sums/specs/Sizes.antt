@@ -20,7 +20,8 @@ use Rattle.positions.specs.HalfRowLaws.{chroma-small, count-column}
 use Rattle.records.specs.Quantities.{trials}
 use Rattle.half_rows.specs.Reading.{size-read}
 use Rattle.half_rows.specs.Near.{chroma-count-is, entry-of-row}
-use Rattle.sums.specs.Sums.{with-columns, with-rows, Held-near, Row-near, Sized}
+use Rattle.half_rows.specs.Sources.{Sized}
+use Rattle.sums.specs.Sums.{with-columns, with-rows, Held-near, Row-near}
 use Rattle.sums.specs.Nearby.{counts-alike}
 use Rattle.sums.specs.Gaps.{apart-most}
 

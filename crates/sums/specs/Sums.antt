@@ -2,7 +2,7 @@
 use mathlib.Core.Path.{_≡_}
 use mathlib.Core.List.{List}
 use Prim.Native.Nat.{ℕ, _+_, _*_, _-_, _%_, _<_, _≤_, min}
-use lib.IntN.{ℤ, pos, natAbs, _+ℤ_, _*ℤ_}
+use lib.IntN.{ℤ, pos, _+ℤ_, _*ℤ_}
 use lib.ListN.{length, getD}
 use Rattle.toolkit.specs.Entries.{Entries}
 use Rattle.frame.specs.Sites.{Frame, frame, Around, around}
@@ -13,6 +13,7 @@ use Rattle.positions.specs.HalfRows.{chroma-start, chroma-count, chroma-row, Ha
 use Rattle.records.specs.Held.{Held}
 use Rattle.records.specs.Quantities.{trials}
 use Rattle.records.specs.Stages.{Second-reads}
+use Rattle.half_rows.specs.Sources.{Sized}
 
 -- the sum of |r here − r at 2t columns off|, t from −n to n: `column-sum` with n for its reach
 unfoldable pub column-sum-to : ℕ → Around ℤ → ℕ
@@ -80,10 +81,6 @@ pub record Summed (shape : Shape) (i n : ℕ) (diagonals verticals rh rv rd fh f
   pub row : (zs : List ℕ) → Sums-read (frame shape zs) i diagonals verticals rh rv rd → Sums (frame shape zs) n i fh fv fd
 
 -- ---- sizes
-
--- the entries from lo to hi − 1 are at most m in size
-pub record Sized (m lo hi : ℕ) (row : List ℤ) : Type 0 where
-  pub each : (x : ℕ) → lo ≤ x → x < hi → natAbs (getD row x (pos 0)) ≤ m
 
 -- half rows of sums: FD has the terms of both kinds
 pub record Sums-room (m count : ℕ) (fh fv fd : List ℤ) : Type 0 where

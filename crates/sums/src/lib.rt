@@ -10,7 +10,8 @@ ghost use Rattle.frame.specs.Sites.{frame};
 ghost use Rattle.method.specs.Gradients.{apart};
 ghost use Rattle.positions.specs.HalfRows.{chroma-start, half-count};
 ghost use Rattle.positions.specs.Taken.{Some-samples};
-ghost use Rattle.sums.specs.Sums.{entries-of, with-columns, with-rows, with-both, Sums-read, Widens, Summed, Sized, Sums-room};
+ghost use Rattle.half_rows.specs.Sources.{Sized};
+ghost use Rattle.sums.specs.Sums.{entries-of, with-columns, with-rows, with-both, Sums-read, Widens, Summed, Sums-room};
 
 // |x − y|.
 fn gap(x: i32, y: i32) -> i32

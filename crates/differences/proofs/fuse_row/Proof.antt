@@ -29,8 +29,8 @@ loop-holds c = (omega arith, refl, wrote-none)
 fuse-requires : tie.Need-fuse-requires Inv-loop μ-loop
 fuse-requires c κs =
     let start = c .before .before .before .before in (
-      rw (as-read (c .before .fuse-arg .given)) (le-trans (start .pre .1 .0 .each _ (c .before .before .loop-test .taken)) (lit≤ tt)),
-      rw (as-read (c .fuse-arg2 .given)) (le-trans (start .pre .1 .1 .each _ (c .before .before .loop-test .taken)) (lit≤ tt)),
+      rw (as-read (c .before .fuse-arg .given)) (le-trans (start .pre .1 .0 .each _ (omega arith) (omega (arith, c .before .before .loop-test .taken))) (lit≤ tt)),
+      rw (as-read (c .fuse-arg2 .given)) (le-trans (start .pre .1 .1 .each _ (omega arith) (omega (arith, c .before .before .loop-test .taken))) (lit≤ tt)),
     )
 
 loop-again : tie.Need-loop-again Inv-loop μ-loop
