@@ -1,5 +1,5 @@
-# make run      develops the document's example frame by the proved program and prints it; make run FRAME=path, any frame file
-#               (the first time the program's crates are proved, which takes minutes)
+# make run      develops the document's example frame by the proved program and prints it; make run FRAME=path, any frame file of at
+#               most 2,048 bytes and 1,024 samples (the first time the program's crates are proved, which takes minutes)
 # make test     proves every crate and passes the tests; its last line is 'N passed, M failed'
 # make bench    times the proved library beside the versions of bench/, in some minutes, and writes docs/performance.svg
 # make tool     builds the command-line tool, build/tool/release/bayer-tool
@@ -16,7 +16,7 @@ FRAME ?= examples/glaze.bayr
 run:
 	@mkdir -p build
 	@rt check print_frame > build/run.log 2>&1 || { cat build/run.log >&2; exit 1; }
-	@target/bin/print_frame < $(FRAME)
+	@target/bin/print_frame < "$(FRAME)"
 
 test:
 	@tests/run
