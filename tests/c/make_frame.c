@@ -3,6 +3,7 @@
 #include <stdlib.h>
 
 #include "bayer.h"
+#include "noise.h"
 
 int main(int count, char **words)
 {
@@ -11,15 +12,10 @@ int main(int count, char **words)
     }
     const struct bayer_shape shape = {strtoul(words[1], NULL, 10), strtoul(words[2], NULL, 10), strtoul(words[3], NULL, 10)};
     const size_t samples = BAYER_PLANE_LENGTH(shape.width, shape.height), length = BAYER_FILE_LENGTH(shape.width, shape.height);
-    uint16_t *mosaic = malloc(samples * sizeof *mosaic);
+    uint16_t *mosaic = noise(samples);
     uint8_t *file = malloc(length);
     if (mosaic == NULL || file == NULL) {
         return 2;
-    }
-    uint32_t state = 1;
-    for (size_t k = 0; k < samples; k++) {
-        state = state * 1664525u + 1013904223u;
-        mosaic[k] = (uint16_t)(state >> 22);
     }
     const struct bayer_returned returned = bayer_write(shape, mosaic, samples, file, length);
     const int written = returned.number == BAYER_DONE && fwrite(file, 1, length, stdout) == length;

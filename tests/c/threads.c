@@ -5,6 +5,7 @@
 
 #include "bayer.h"
 #include "expect.h"
+#include "noise.h"
 
 enum { THREADS = 8, SIDE = 600 };
 
@@ -23,18 +24,6 @@ static void *develop(void *argument)
     call->returned = bayer_develop(call->shape, call->mosaic, call->count, call->red, call->count, call->green, call->count, call->blue,
                                    call->count, call->work, BAYER_WORK_LENGTH(call->shape.width, call->shape.height));
     return NULL;
-}
-
-/* Samples that follow from their place alone. */
-static uint16_t *noise(size_t count)
-{
-    uint16_t *samples = malloc(count * sizeof *samples);
-    uint32_t state = 1;
-    for (size_t k = 0; samples != NULL && k < count; k++) {
-        state = state * 1664525u + 1013904223u;
-        samples[k] = (uint16_t)(state >> 22);
-    }
-    return samples;
 }
 
 /* A call with planes of its own; 0 where there is no memory. */
@@ -71,25 +60,50 @@ static int equal_planes(const struct call *one, const struct call *other)
            memcmp(one->blue, other->blue, bytes) == 0;
 }
 
+/* Fills the planes with other numbers than develop leaves. */
+static void spoil(struct call *call)
+{
+    const size_t bytes = call->count * sizeof(int32_t);
+    memset(call->red, 0xa5, bytes);
+    memset(call->green, 0xa5, bytes);
+    memset(call->blue, 0xa5, bytes);
+}
+
+/* A checksum of the planes, which every entry changes: two calls are compared with memory for one. */
+static uint64_t checksum(const struct call *call)
+{
+    const int32_t *const planes[3] = {call->red, call->green, call->blue};
+    uint64_t sum = 14695981039346656037u;
+    for (int k = 0; k < 3; k++) {
+        for (size_t entry = 0; entry < call->count; entry++) {
+            sum = (sum ^ (uint32_t)planes[k][entry]) * 1099511628211u;
+        }
+    }
+    return sum;
+}
+
 static void on_the_stated_stack(void)
 {
     uint16_t *mosaic = noise(BAYER_PLANE_LENGTH(BAYER_SIDE_MOST, BAYER_SIDE_MOST));
     int32_t *work = malloc(BAYER_WORK_LENGTH(BAYER_SIDE_MOST, BAYER_SIDE_MOST) * sizeof *work);
-    struct call small, large;
-    if (!prepare(&small, BAYER_SIDE_MOST, mosaic, work) || !prepare(&large, BAYER_SIDE_MOST, mosaic, work)) {
+    struct call call;
+    if (!prepare(&call, BAYER_SIDE_MOST, mosaic, work)) {
         expect(0, "memory for the planes of 4,096 by 4,096");
         return;
     }
     pthread_attr_t attributes;
     pthread_t thread;
+    spoil(&call);
     expect(pthread_attr_init(&attributes) == 0 && pthread_attr_setstacksize(&attributes, BAYER_STACK_BYTES) == 0 &&
-               pthread_create(&thread, &attributes, develop, &small) == 0 && pthread_join(thread, NULL) == 0,
+               pthread_create(&thread, &attributes, develop, &call) == 0 && pthread_join(thread, NULL) == 0,
            "a thread with a stack of BAYER_STACK_BYTES runs");
-    develop(&large);
-    expect(done(&small) && done(&large), "it develops 4,096 by 4,096");
-    expect(equal_planes(&small, &large), "its planes are those of the main thread");
-    release(&small);
-    release(&large);
+    const int thread_done = done(&call);
+    const uint64_t sum = checksum(&call);
+    spoil(&call);
+    develop(&call);
+    expect(thread_done && done(&call), "it develops 4,096 by 4,096");
+    expect(sum == checksum(&call), "its planes are those of the main thread");
+    release(&call);
     free(work);
     free(mosaic);
 }
@@ -100,7 +114,7 @@ static void eight_at_once(void)
     int32_t *work = malloc(THREADS * BAYER_WORK_LENGTH(SIDE, SIDE) * sizeof *work);
     struct call calls[THREADS], alone;
     pthread_t threads[THREADS];
-    int ready = work != NULL && prepare(&alone, SIDE, mosaic, work), equal = 1, all_done = 1;
+    int ready = work != NULL && prepare(&alone, SIDE, mosaic, work), equal = 1, all_done = 1, started = 0;
     for (int k = 0; ready && k < THREADS; k++) {
         ready = prepare(&calls[k], SIDE, mosaic, work + (size_t)k * BAYER_WORK_LENGTH(SIDE, SIDE));
     }
@@ -109,17 +123,19 @@ static void eight_at_once(void)
         return;
     }
     develop(&alone);
-    for (int k = 0; k < THREADS; k++) {
-        ready = pthread_create(&threads[k], NULL, develop, &calls[k]) == 0 && ready;
+    while (started < THREADS && pthread_create(&threads[started], NULL, develop, &calls[started]) == 0) {
+        started++;
     }
-    for (int k = 0; ready && k < THREADS; k++) {
-        pthread_join(threads[k], NULL);
+    for (int k = 0; k < started; k++) {
+        all_done = pthread_join(threads[k], NULL) == 0 && all_done;
+    }
+    for (int k = 0; k < THREADS; k++) {
         all_done = all_done && done(&calls[k]);
-        equal = equal && equal_planes(&alone, &calls[k]);
+        equal = all_done && equal && equal_planes(&alone, &calls[k]);
         release(&calls[k]);
     }
-    expect(ready && all_done, "eight threads develop one mosaic at once");
-    expect(ready && done(&alone) && equal, "their planes are those of one thread alone");
+    expect(all_done, "eight threads develop one mosaic at once");
+    expect(done(&alone) && equal, "their planes are those of one thread alone");
     release(&alone);
     free(work);
     free(mosaic);

@@ -10,18 +10,21 @@ pub fn both_read(file: &[u8], room: usize) -> Result<Description, Refusal> {
     let before: Vec<u16> = (0..room).map(|k| (k * 31 + 5) as u16).collect();
     let mut expected_samples = before.clone();
     let expected = frame_file::read(file, &mut expected_samples);
-    let at = format!("a file of {} bytes, room {room}", file.len());
+    let at = ("room", room, "file", file);
     for touching in [Touching::Before, Touching::After] {
         let lent = Guarded::new(file, touching);
         let mut samples = Guarded::new(&before, touching);
         let answer = compare::read(&lent, &mut samples);
-        assert_eq!(answer, expected, "{at}");
-        assert!(samples[..] == expected_samples[..], "{at}");
-        assert!(lent[..] == *file, "{at}");
-        assert!(lent.canaries_stand() && samples.canaries_stand(), "{at}");
+        assert_eq!(answer, expected, "{at:?}");
+        assert!(samples[..] == expected_samples[..], "{at:?}");
+        assert!(lent[..] == *file, "{at:?}");
+        assert!(lent.canaries_stand() && samples.canaries_stand(), "{at:?}");
     }
     if expected.is_err() {
-        assert!(expected_samples == before, "a refusal leaves the samples");
+        assert!(
+            expected_samples == before,
+            "a refusal leaves the samples: {at:?}"
+        );
     }
     expected
 }

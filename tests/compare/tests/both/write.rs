@@ -12,18 +12,18 @@ pub fn both_write(frame: &Frame, file_length: usize) -> Result<(), Refusal> {
     let mut expected_file = before.clone();
     let (width, height, phase) = (frame.width, frame.height, frame.phase);
     let expected = frame_file::write(width, height, phase, &frame.samples, &mut expected_file);
-    let at = format!("{width} x {height}, phase {phase}");
+    let at = ("bytes", file_length, frame);
     for touching in [Touching::Before, Touching::After] {
         let mosaic = Guarded::new(&frame.samples, touching);
         let mut file = Guarded::new(&before, touching);
         let answer = compare::write(width, height, phase, &mosaic, &mut file);
-        assert_eq!(answer, expected, "{at}");
-        assert!(file[..] == expected_file[..], "{at}");
-        assert!(mosaic[..] == frame.samples[..], "{at}");
-        assert!(file.canaries_stand() && mosaic.canaries_stand(), "{at}");
+        assert_eq!(answer, expected, "{at:?}");
+        assert!(file[..] == expected_file[..], "{at:?}");
+        assert!(mosaic[..] == frame.samples[..], "{at:?}");
+        assert!(file.canaries_stand() && mosaic.canaries_stand(), "{at:?}");
     }
     if expected.is_err() {
-        assert!(expected_file == before, "a refusal leaves the file");
+        assert!(expected_file == before, "a refusal leaves the file: {at:?}");
     }
     expected
 }

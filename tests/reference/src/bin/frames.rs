@@ -1,11 +1,9 @@
 //! Writes the program's cases into the folder named as argument: NAME.bayr, and NAME.txt with the text that the program prints of it.
 
-use reference::frame_file::{block_count, check, write};
+use reference::frame_file::{block_count, check, write, BLOCK};
 use reference::program::text;
 use std::path::Path;
 use std::{env, fs, io};
-
-const BLOCK: usize = 512;
 
 /// Numbers from 0 to 1,023 from one seed.
 struct Numbers(u64);
