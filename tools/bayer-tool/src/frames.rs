@@ -2,7 +2,7 @@
 
 use crate::output;
 use crate::problem::Problem;
-use bayer::{Refusal, Shape};
+use bayer::{Refusal, Shape, SIDES};
 use reference::sites::Frame;
 use std::fs::File;
 use std::io::{self, Read};
@@ -12,8 +12,8 @@ pub type Planes = [Vec<i32>; 3];
 
 /// One byte more than the longest frame file has: a longer file need not be read further to be refused.
 const ENOUGH: u64 = 1 + Shape {
-    width: 4096,
-    height: 4096,
+    width: *SIDES.end(),
+    height: *SIDES.end(),
     phase: 0,
 }
 .file_length() as u64;
@@ -63,7 +63,7 @@ pub fn save(frame: &Frame, from: &str, name: &str) -> Result<(), Problem> {
 
 /// The library's refusal of a size, before a buffer is made for it.
 pub fn admitted(width: usize, height: usize) -> Result<(), Refusal> {
-    let allowed = |side| bayer::SIDES.contains(side);
+    let allowed = |side| SIDES.contains(side);
     if allowed(&width) && allowed(&height) {
         return Ok(());
     }

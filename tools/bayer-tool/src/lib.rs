@@ -21,6 +21,8 @@ usage: bayer-tool show FRAME PICTURE                       a frame file, develop
        bayer-tool facts FRAME                              size, phase, range, and how many sites tie
        bayer-tool turned [--frame FRAME | --size WxH] [--picture PICTURE] CHANGE ..
                                                            develops, changes, develops again, and compares
+       bayer-tool help                                     these lines
+       bayer-tool version                                  the library's version
 P is 0 or RGGB, 1 or GRBG, 2 or GBRG, 3 or BGGR. CHANGE is left-right, top-bottom, transpose or trade.
 ";
 

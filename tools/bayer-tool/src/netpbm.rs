@@ -2,9 +2,12 @@
 
 use crate::frames::read_file;
 use crate::problem::Problem;
+use bayer::SIDES;
+
+const SIDE: u64 = *SIDES.end() as u64;
 
 /// More bytes than an image of an admitted size has, plain ones with a number of five digits and a space for each value.
-const ENOUGH: u64 = 4096 * 4096 * 3 * 6 + 65_536;
+const ENOUGH: u64 = SIDE * SIDE * 3 * 6 + 65_536;
 
 /// Values from 0 to `most`; `channels` for each point, 1 of a PGM and 3 of a PPM, in raster order.
 #[derive(Clone, Debug, PartialEq, Eq)]
@@ -17,7 +20,17 @@ pub struct Image {
 }
 
 pub fn load(name: &str) -> Result<Image, Problem> {
-    parse(&read_file(name, ENOUGH)?).map_err(|what| Problem::Form(name.into(), what.into()))
+    load_within(name, ENOUGH)
+}
+
+/// The image of a file of at most so many bytes. Of a longer one the part that is read could pass for a whole image.
+pub fn load_within(name: &str, most: u64) -> Result<Image, Problem> {
+    let wrong = |what: String| Problem::Form(name.into(), what);
+    let bytes = read_file(name, most + 1)?;
+    if bytes.len() as u64 > most {
+        return Err(wrong(format!("longer than {most} bytes")));
+    }
+    parse(&bytes).map_err(|what| wrong(what.into()))
 }
 
 /// The words of a header or of a plain image; from # to the end of a line is a comment.

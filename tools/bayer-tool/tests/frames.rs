@@ -5,7 +5,7 @@ mod common;
 
 use bayer_tool::commands::facts::{ties, Ties};
 use bayer_tool::commands::frame::masked;
-use bayer_tool::netpbm::{parse, Image};
+use bayer_tool::netpbm::{load_within, parse, Image};
 use common::{frame, Generator, KINDS};
 use reference::green::{first_pass, Outcome};
 
@@ -79,6 +79,17 @@ fn what_is_no_image() {
     for bytes in wrong {
         assert!(parse(bytes).is_err(), "{bytes:?}");
     }
+}
+
+#[test]
+fn a_file_longer_than_what_is_read() {
+    let name = concat!(env!("CARGO_TARGET_TMPDIR"), "/long.pgm");
+    let whole = b"P2 2 2 99 1 2 3 45";
+    std::fs::write(name, whole).unwrap();
+    let most = whole.len() as u64;
+    assert_eq!(load_within(name, most).unwrap().values, [1, 2, 3, 45]);
+    let problem = load_within(name, most - 1).unwrap_err();
+    assert_eq!(problem.to_string(), format!("{name}: longer than 17 bytes"));
 }
 
 #[test]

@@ -5,7 +5,7 @@ use crate::frames::{self, Planes};
 use crate::picture::{Kind, Picture};
 use crate::problem::Problem;
 use crate::progress::Progress;
-use bayer::Refusal;
+use bayer::{Refusal, SAMPLE_MOST};
 use reference::sites::Frame;
 
 /// The planes of a frame held to 0..1,023.
@@ -19,7 +19,8 @@ fn clamped(frame: &Frame) -> Result<Planes, Refusal> {
 
 /// The nearest byte: 255/1,023 of the number.
 pub fn byte(number: i32) -> u8 {
-    ((2 * 255 * number + 1023) / (2 * 1023)) as u8
+    let most = i32::from(SAMPLE_MOST);
+    ((2 * 255 * number + most) / (2 * most)) as u8
 }
 
 pub fn picture(frame: &Frame) -> Result<Picture, Refusal> {
