@@ -1,4 +1,4 @@
-//! Links libbayer.a: from the folder that BAYER_LIB_DIR names, otherwise from where `make lib` writes it.
+//! Links libbayer.a: from the folder that BAYER_LIB_DIR, an absolute path, names, otherwise from where `make lib` writes it.
 
 use std::path::{Path, PathBuf};
 
