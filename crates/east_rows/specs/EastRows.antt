@@ -3,7 +3,7 @@ use mathlib.Core.Path.{_≡_}
 use mathlib.Core.List.{List}
 use Prim.Native.Nat.{ℕ, _+_, _*_, _<_, _≤_}
 use lib.IntN.{ℤ, pos}
-use lib.ListN.{length, getD}
+use lib.ListN.{getD}
 use Rattle.toolkit.specs.Writes.{Wrote}
 use Rattle.frame.specs.Sites.{Frame, frame}
 use Rattle.frame.specs.declared.Shape.{Shape}
@@ -19,7 +19,6 @@ pub record East-reads (f : Frame) (i : ℕ) (at rows alongs : List ℕ) : Type 0
   pub taken : Taken f
   pub inside : i < f .height
   pub seven : Seven f (i + 2) at rows
-  pub alongs-size : length alongs ≡ 98688
   pub sums : (p : ℕ) → 1 ≤ p → p ≤ 3 → Summed (f .width) (getD at p 0) rows alongs
 
 abbrev pub East-stored : Frame → ℕ → List ℤ → List ℤ → Type 0

@@ -16,7 +16,7 @@ ghost use Rattle.east_rows.specs.RowSums.{Small, East-room, along-at, ea
 ghost use Rattle.east_rows.specs.EastRows.{East-reads, East-stores};
 
 // |x − y|.
-pub fn distance(x: u16, y: u16) -> u16
+fn distance(x: u16, y: u16) -> u16
     ensures { λ r. ⌜ (r ≡ apart (pos x) (pos y)) × (r ≤ max x y) ⌝ }
 {
     if x < y { y - x } else { x - y }

@@ -32,7 +32,6 @@ east-reads {f} {i} {rows = rows} {alongs = alongs} lent e = record {
   taken = lent .mosaic .taken;
   inside = lent .mosaic .inside;
   seven = seven-at (lent .mosaic) e (omega arith) (omega arith);
-  alongs-size = lent .sums .size;
   sums = λ p a b.
       let h : p < 7 = omega arith in
       let near = near-bounds (f .height) i (i + 2) p (lent .mosaic .taken .tall) (lent .mosaic .inside) (omega arith) (omega arith) in

@@ -49,7 +49,7 @@ fn mean_of_zeros(v: [u64; 4], g: [u64; 4]) -> u64
 }
 
 // The weighted mean of naturals. All is times the product of the four gradients, so that each weight is the product of the other three.
-pub fn natural_mean(v: [u64; 4], g: [u64; 4]) -> u64
+fn natural_mean(v: [u64; 4], g: [u64; 4]) -> u64
     requires { ⌜ Natural-mean-fits v g ⌝ }
     ensures { λ r. ⌜ pos r ≡ weighted-mean (signed (numbers v)) (numbers g) ⌝ }
 {

@@ -45,7 +45,7 @@ pub same-seven : {a b c d e f g a' b' c' d' e' f' g' : ℕ} → a ≡ a' → b �
     → _≡_ {A = List ℕ} (a ∷ b ∷ c ∷ d ∷ e ∷ f ∷ g ∷ []) (a' ∷ b' ∷ c' ∷ d' ∷ e' ∷ f' ∷ g' ∷ [])
 same-seven p q r s t u v = cc
 
--- rows of the ring are seven rows, where they are among those that are loaded
+-- the entries, one by one
 pub near-at : (H x p : ℕ) → p < 7 → getD (near-entries H x) p 0 ≡ near-entry H x p
 near-at H x zero h = refl
 near-at H x (suc zero) h = refl
@@ -56,12 +56,12 @@ near-at H x (suc (suc (suc (suc (suc zero))))) h = refl
 near-at H x (suc (suc (suc (suc (suc (suc zero)))))) h = refl
 near-at H x (suc (suc (suc (suc (suc (suc (suc p))))))) h = absurd (omega arith)
 
-pub seven-loaded : {f : Frame} {x : ℕ} {rows : List ℕ} → length rows ≡ 98688
+-- rows of the ring are seven rows, where they are loaded
+pub seven-loaded : {f : Frame} {x : ℕ} {rows : List ℕ}
     → ((p : ℕ) → p < 7 → Loaded f (near-row (f .height) x p) (place-in-ring (near-row (f .height) x p) * 4112) rows)
     → Seven f x (near-entries (f .height) x) rows
 unfolding near-entry
-seven-loaded {f} {x} {rows} size row = record {
-  size = size;
+seven-loaded {f} {x} {rows} row = record {
   inside = λ p h. rw (near-at (f .height) x p h) (omega (arith, ring-small (near-row (f .height) x p)));
   place = λ p h. rw (near-at (f .height) x p h) (row p h);
 }

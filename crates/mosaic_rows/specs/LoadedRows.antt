@@ -3,7 +3,7 @@ use mathlib.Core.Path.{_≡_}
 use mathlib.Core.List.{List, [], _∷_}
 use Prim.Native.Nat.{ℕ, _+_, _*_, _<_, _≤_}
 use lib.IntN.{subℕ}
-use lib.ListN.{length, getD}
+use lib.ListN.{getD}
 use Rattle.toolkit.specs.Writes.{Wrote}
 use Rattle.frame.specs.Sites.{Frame, sample, reflect}
 use Rattle.positions.specs.Columns.{column-at}
@@ -35,6 +35,5 @@ near-entries H x =
 
 -- the rows x − 4 to x + 2, reflected, stand in rows from the entries of at on
 pub record Seven (f : Frame) (x : ℕ) (at rows : List ℕ) : Type 0 where
-  pub size : length rows ≡ 98688
   pub inside : (p : ℕ) → p < 7 → getD at p 0 + 4112 ≤ 98688
   pub place : (p : ℕ) → p < 7 → Loaded f (near-row (f .height) x p) (getD at p 0) rows

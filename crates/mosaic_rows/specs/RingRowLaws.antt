@@ -44,4 +44,4 @@ module _ {f : Frame} {i base : ℕ} {rows : List ℕ} (lent : Mosaic-lent f i ba
   near-rows = record { each = λ p h. round-part (lent .round) (bounds p h .0) (bounds p h .1) }
 
   pub seven-of : Seven f x (near-entries (f .height) x) rows
-  seven-of = seven-loaded (lent .kept .size) (λ p h. lent .kept .row _ (bounds p h .0) (omega (arith, bounds p h)))
+  seven-of = seven-loaded (λ p h. lent .kept .row _ (bounds p h .0) (omega (arith, bounds p h)))
