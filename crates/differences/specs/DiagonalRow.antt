@@ -20,11 +20,10 @@ use Rattle.positions.specs.RingLaws.{ring-end}
 use Rattle.positions.specs.Near.{near-north, near-south}
 use Rattle.positions.specs.HalfRows.{chroma-start, half-count, chroma-count, chroma-row, Half}
 use Rattle.positions.specs.HalfRowLaws.{chroma-small, chroma-odd, both-counts, rest-small, rest-half}
-use Rattle.records.specs.Held.{Kept}
 use Rattle.records.specs.Layout.{record-size, south-part, final-part}
 use Rattle.records.specs.Quantities.{finals, others}
 use Rattle.records.specs.SiteColours.{chroma-not-traded}
-use Rattle.records.specs.Stages.{Lent, Diagonal-reads}
+use Rattle.records.specs.Stages.{Chroma-kept, Lent, Diagonal-reads}
 use Rattle.half_rows.specs.Sources.{source-entry, north-entry}
 use Rattle.half_rows.specs.Mirror.{mirrored}
 use Rattle.half_rows.specs.Near.{north-step, north-odd, south-odd, half-around, half-of-row}
@@ -52,7 +51,7 @@ pub record Row-one-off (f : Frame) (c r rest : ℕ) (work copied row : List ℤ)
 -- what the code has formed of row i when its means are due
 pub record Diagonal-row (f : Frame) (i base c count above below : ℕ) (tops work n copied-up up copied-down down : List ℤ) : Type 0 where
   pub gradient-row : Gradient-row f i base c count tops work n
-  pub held : Kept (record-size (f .width)) (final-part (f .width)) (chroma-count f) (i - 1) (min (i + 2) (f .height)) (chroma-row f (finals f)) work
+  pub held : Chroma-kept f (final-part (f .width)) (i - 1) (min (i + 2) (f .height)) (finals f) work
   pub one-above : above ≡ reflect (f .height) (subℕ i 1)
   pub one-below : below ≡ reflect (f .height) (pos (i + 1))
   pub up-row : Row-one-off f c above (f .width - count) work copied-up up

@@ -23,10 +23,9 @@ use Rattle.positions.specs.Near.{near-north, near-south}
 use Rattle.positions.specs.Rings.{place-in-ring}
 use Rattle.positions.specs.HalfRows.{chroma-start, half-count, chroma-count, chroma-row, Half}
 use Rattle.positions.specs.HalfRowLaws.{count-high}
-use Rattle.records.specs.Held.{Held}
 use Rattle.records.specs.Layout.{record-size, south-part}
 use Rattle.records.specs.Quantities.{greens, finals}
-use Rattle.records.specs.Stages.{Plane-size, Enhance-reads}
+use Rattle.records.specs.Stages.{Chroma-held, Plane-size, Enhance-reads}
 use Rattle.half_rows.specs.Sources.{Sized, source-entry, north-entry}
 use Rattle.half_rows.specs.Mirror.{mirrored}
 use Rattle.half_rows.specs.Near.{north-step, north-even, south-even, half-near, half-around, half-of-row, row-near-even}
@@ -54,7 +53,7 @@ here c k = simp to-naturals (omega arith)
 pub record Enhance-row (f : Frame) (i base c count below above : ℕ) (tops work green n copied l : List ℤ) : Type 0 where
   pub gradient-row : Gradient-row f i base c count tops work n
   pub green-size : Plane-size f green
-  pub held : Held (f .width) 0 (chroma-count f) (i - 2) (min (i + 3) (f .height)) (chroma-row f (greens f)) green
+  pub held : Chroma-held f (i - 2) (min (i + 3) (f .height)) (greens f) green
   pub two-below : below ≡ reflect (f .height) (pos (i + 2))
   pub two-above : above ≡ reflect (f .height) (subℕ i 2)
   pub copied-row : Entries (pos 0) 2064 4 (count + 4) (λ (x : ℕ). getD green (i * f .width + (x - 4)) (pos 0)) copied

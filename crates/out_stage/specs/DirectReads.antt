@@ -19,13 +19,12 @@ use Rattle.method.specs.Sizes.{At-most, listed-naturals}
 use Rattle.positions.specs.Taken.{Taken}
 use Rattle.positions.specs.Rings.{place-in-ring}
 use Rattle.positions.specs.RingLaws.{ring-end}
-use Rattle.positions.specs.HalfRows.{chroma-start, half-count, chroma-count, chroma-row}
+use Rattle.positions.specs.HalfRows.{chroma-start, half-count, chroma-count}
 use Rattle.positions.specs.HalfRowLaws.{chroma-small, count-high, count-half, rest-half}
 use Rattle.positions.specs.Near.{near-south, near-north}
 use Rattle.records.specs.Layout.{record-size, final-part, other-part}
-use Rattle.records.specs.Held.{Kept}
 use Rattle.records.specs.Quantities.{finals, others}
-use Rattle.records.specs.Stages.{Lent, Out-reads}
+use Rattle.records.specs.Stages.{Chroma-kept, Lent, Out-reads}
 use Rattle.records.specs.SiteColours.{row-colour}
 use Rattle.half_rows.specs.Near.{north-step, north-odd, south-odd, half-around, chroma-count-is, row-near-odd}
 use Rattle.half_rows.specs.Sources.{north-entry, four-entries}
@@ -93,8 +92,7 @@ module _ (shape : Shape) (zs : List ℕ) (i : ℕ) (p : Places) (placed : Placed
     -- the values beside green site k, of q in row i and of q' in the rows one off, read from entry o of their records on
     beside-are : (q q' : ℕ → ℕ → ℤ) (row : List ℤ) (o south north k : ℕ)
         → Wide-half (shape .width) p (q i) row
-        → Kept (record-size (shape .width)) o (chroma-count (frame shape zs)) (i - 1) (min (i + 2) (shape .height))
-        (chroma-row (frame shape zs) q') work
+        → Chroma-kept (frame shape zs) o (i - 1) (min (i + 2) (shape .height)) q' work
         → south ≡ place-in-ring (reflect (shape .height) (pos (i + 1))) * record-size (shape .width) + o
         → north ≡ place-in-ring (reflect (shape .height) (subℕ i 1)) * record-size (shape .width) + o → k < p .rest
         → directions (beside-values row (p .start) work south north k) ≡

@@ -11,12 +11,11 @@ use Rattle.frame.specs.declared.Shape.{Shape}
 use Rattle.method.specs.Gradients.{mosaic}
 use Rattle.method.specs.Planes.{colour-difference}
 use Rattle.positions.specs.Rings.{place-in-ring}
-use Rattle.positions.specs.HalfRows.{chroma-start, half-count, chroma-count, chroma-row, Half}
+use Rattle.positions.specs.HalfRows.{chroma-start, half-count, chroma-count, Half}
 use Rattle.positions.specs.HalfRowLaws.{chroma-small, count-column, both-counts}
 use Rattle.records.specs.Layout.{record-size, final-part, other-part}
-use Rattle.records.specs.Held.{Kept}
 use Rattle.records.specs.Quantities.{finals, others}
-use Rattle.records.specs.Stages.{Out-reads}
+use Rattle.records.specs.Stages.{Chroma-kept, Out-reads}
 use Rattle.records.specs.SiteColours.{row-colour}
 use Rattle.half_rows.specs.Mirror.{mirrored}
 use Rattle.half_rows.specs.Near.{chroma-count-is, half-of-row}
@@ -44,7 +43,7 @@ module _ (shape : Shape) (zs : List ℕ) (i : ℕ) (p : Places) (placed : Placed
     (reads : Out-reads (frame shape zs) i base tops work) where
   -- a part of the row's own record, copied and mirrored
   row-half : (q : ℕ → ℕ → ℤ) (o a : ℕ) (copied row : List ℤ)
-      → Kept (record-size (shape .width)) o (chroma-count (frame shape zs)) (i - 1) (min (i + 2) (shape .height)) (chroma-row (frame shape zs) q) work
+      → Chroma-kept (frame shape zs) o (i - 1) (min (i + 2) (shape .height)) q work
       → a ≡ place-in-ring i * record-size (shape .width) + o → Copied p work a copied
       → Mirrored (shape .width) p copied row
       → Wide-half (shape .width) p (q i) row

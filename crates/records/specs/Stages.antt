@@ -32,6 +32,13 @@ pub record Lent (f : Frame) (i base : ℕ) (tops work : List ℤ) : Type 0 where
 abbrev pub Plane-size : Frame → List ℤ → Type 0
 Plane-size f plane = length plane ≡ f .height * f .width
 
+-- a quantity of the red and blue sites of the rows from lo to hi − 1, in a plane and in the records
+abbrev pub Chroma-held : Frame → ℕ → ℕ → (ℕ → ℕ → ℤ) → List ℤ → Type 0
+Chroma-held f lo hi q plane = Held (f .width) 0 (chroma-count f) lo hi (chroma-row f q) plane
+
+abbrev pub Chroma-kept : Frame → ℕ → ℕ → ℕ → (ℕ → ℕ → ℤ) → List ℤ → Type 0
+Chroma-kept f o lo hi q work = Kept (record-size (f .width)) o (chroma-count f) lo hi (chroma-row f q) work
+
 -- ---- first: E, S, r_D and r_V of row i, from the mosaic; N is S of row i − 2
 pub record First-reads (f : Frame) (i base : ℕ) (tops work : List ℤ) : Type 0 where
   pub lent : Lent f i base tops work
@@ -49,14 +56,18 @@ Gradients-stored f i old new = Wrote (pos 0) (place-in-ring i * record-size (f .
 abbrev pub Chroma-stored : Frame → (ℕ → ℕ → ℤ) → ℕ → List ℤ → List ℤ → Type 0
 Chroma-stored f q i old new = Wrote (pos 0) (i * f .width) (chroma-count f i) (chroma-row f q i) old new
 
+-- the same in its record, from entry o on
+abbrev pub Record-stored : Frame → ℕ → (ℕ → ℕ → ℤ) → ℕ → List ℤ → List ℤ → Type 0
+Record-stored f o q i old new = Wrote (pos 0) (place-in-ring i * record-size (f .width) + o) (chroma-count f i) (chroma-row f q i) old new
+
 -- ---- second: D of row i, from r_D and r_V of the rows to 8 off
 pub record Second-reads (f : Frame) (i : ℕ) (diagonals verticals : List ℤ) : Type 0 where
   pub taken : Taken f
   pub inside : i < f .height
   pub diagonals-size : Plane-size f diagonals
   pub verticals-size : Plane-size f verticals
-  pub diagonals-held : Held (f .width) 0 (chroma-count f) (i - 8) (min (i + 9) (f .height)) (chroma-row f (trials f diagonal)) diagonals
-  pub verticals-held : Held (f .width) 0 (chroma-count f) (i - 8) (min (i + 9) (f .height)) (chroma-row f (trials f vertical)) verticals
+  pub diagonals-held : Chroma-held f (i - 8) (min (i + 9) (f .height)) (trials f diagonal) diagonals
+  pub verticals-held : Chroma-held f (i - 8) (min (i + 9) (f .height)) (trials f vertical) verticals
 
 pub record Second-stores (shape : Shape) (i : ℕ) (diagonals verticals old new : List ℤ) : Type 0 where
   pub row : (zs : List ℕ) → Second-reads (frame shape zs) i diagonals verticals
@@ -67,27 +78,23 @@ pub record Enhance-reads (f : Frame) (i base : ℕ) (tops work green : List ℤ)
   pub lent : Lent f i base tops work
   pub green-size : Plane-size f green
   pub gradients : Gradients f (i - 2) (i + 1) tops work
-  pub greens-held : Held (f .width) 0 (chroma-count f) (i - 2) (min (i + 3) (f .height)) (chroma-row f (greens f)) green
+  pub greens-held : Chroma-held f (i - 2) (min (i + 3) (f .height)) (greens f) green
 
 pub record Enhance-stores (shape : Shape) (i base : ℕ) (tops green old new : List ℤ) : Type 0 where
   pub row : (zs : List ℕ) → Enhance-reads (frame shape zs) i base tops old green
-      → Wrote (pos 0) (place-in-ring i * record-size (shape .width) + final-part (shape .width)) (chroma-count (frame shape zs) i)
-      (chroma-row (frame shape zs) (finals (frame shape zs)) i) old new
+      → Record-stored (frame shape zs) (final-part (shape .width)) (finals (frame shape zs)) i old new
 
 -- ---- diagonal: the difference of the other colour of row i, from the final differences of the rows one off
 pub record Diagonal-reads (f : Frame) (i base : ℕ) (tops work : List ℤ) : Type 0 where
   pub lent : Lent f i base tops work
   pub gradients : Gradients f (i - 2) (i + 1) tops work
-  pub finals-held : Kept (record-size (f .width)) (final-part (f .width)) (chroma-count f) (i - 1) (min (i + 2) (f .height))
-      (chroma-row f (finals f)) work
+  pub finals-held : Chroma-kept f (final-part (f .width)) (i - 1) (min (i + 2) (f .height)) (finals f) work
 
 pub record Diagonal-stores (shape : Shape) (i base : ℕ) (tops old new : List ℤ) : Type 0 where
   pub row : (zs : List ℕ) → Diagonal-reads (frame shape zs) i base tops old
-      → Wrote (pos 0) (place-in-ring i * record-size (shape .width) + other-part (shape .width)) (chroma-count (frame shape zs) i)
-      (chroma-row (frame shape zs) (others (frame shape zs)) i) old new
+      → Record-stored (frame shape zs) (other-part (shape .width)) (others (frame shape zs)) i old new
 
 -- ---- out: the three numbers of row i, from both differences of the rows i and one off
 pub record Out-reads (f : Frame) (i base : ℕ) (tops work : List ℤ) : Type 0 where
   pub reads : Diagonal-reads f i base tops work
-  pub others-held : Kept (record-size (f .width)) (other-part (f .width)) (chroma-count f) (i - 1) (min (i + 2) (f .height))
-      (chroma-row f (others f)) work
+  pub others-held : Chroma-kept f (other-part (f .width)) (i - 1) (min (i + 2) (f .height)) (others f) work

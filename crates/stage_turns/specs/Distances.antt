@@ -11,11 +11,10 @@ use Rattle.method.specs.Green.{vertical, diagonal}
 use Rattle.positions.specs.Taken.{Taken}
 use Rattle.positions.specs.HalfRows.{chroma-count, chroma-row, in-halves}
 use Rattle.positions.specs.Rings.{Round}
-use Rattle.records.specs.Held.{Held, Kept}
 use Rattle.records.specs.Turns.{Turn, Ring-turn}
 use Rattle.records.specs.Layout.{record-size, gradient-size, final-part, other-part, top-size}
 use Rattle.records.specs.Quantities.{norths, gradient-entry, trials, greens, finals, others, outputs}
-use Rattle.records.specs.Stages.{Gradients, Plane-size}
+use Rattle.records.specs.Stages.{Gradients, Plane-size, Chroma-held, Chroma-kept}
 use Rattle.mosaic_rows.specs.RingRows.{Rows-kept}
 use Rattle.first_stage.specs.FirstStage.{Sums-kept, Line-loaded}
 
@@ -31,13 +30,6 @@ Chroma-turn f L t q old new = Turn (f .height) L t (f .width) 0 (chroma-count f)
 
 abbrev pub Record-turn : Frame → ℕ → ℕ → ℕ → (ℕ → ℕ → ℤ) → List ℤ → List ℤ → Type 0
 Record-turn f L t o q old new = Ring-turn (f .height) L t (record-size (f .width)) o (chroma-count f) (chroma-row f q) old new
-
--- a quantity of the red and blue sites of the rows from lo to hi − 1, in a plane and in the records
-abbrev pub Chroma-held : Frame → ℕ → ℕ → (ℕ → ℕ → ℤ) → List ℤ → Type 0
-Chroma-held f lo hi q plane = Held (f .width) 0 (chroma-count f) lo hi (chroma-row f q) plane
-
-abbrev pub Chroma-kept : Frame → ℕ → ℕ → ℕ → (ℕ → ℕ → ℤ) → List ℤ → Type 0
-Chroma-kept f o lo hi q work = Kept (record-size (f .width)) o (chroma-count f) lo hi (chroma-row f q) work
 
 -- ---- load, in its own step
 pub record Load-turned (f : Frame) (t : ℕ) (rows rows' alongs alongs' : List ℕ) : Type 0 where

@@ -10,9 +10,8 @@ use Rattle.frame.specs.declared.Shape.{Shape}
 use Rattle.method.specs.Gradients.{apart, exchanged}
 use Rattle.method.specs.Green.{horizontal, vertical, diagonal, sum-about}
 use Rattle.positions.specs.HalfRows.{chroma-start, chroma-count, chroma-row, Half}
-use Rattle.records.specs.Held.{Held}
 use Rattle.records.specs.Quantities.{trials}
-use Rattle.records.specs.Stages.{Second-reads}
+use Rattle.records.specs.Stages.{Chroma-held, Second-reads}
 use Rattle.half_rows.specs.Sources.{Sized}
 
 -- the sum of |r here − r at 2t columns off|, t from −n to n: `column-sum` with n for its reach
@@ -45,7 +44,7 @@ around-entry f q i x = around (f .height) (f .width) q i (chroma-start (f .phase
 
 -- a plane holds q at the red and blue sites of the rows to 8 off row i
 abbrev pub Held-near : Frame → ℕ → (ℕ → ℕ → ℤ) → List ℤ → Type 0
-Held-near f i q plane = Held (f .width) 0 (chroma-count f) (i - 8) (min (i + 9) (f .height)) (chroma-row f q) plane
+Held-near f i q plane = Chroma-held f (i - 8) (min (i + 9) (f .height)) q plane
 
 -- row r is one of them, an even number of rows off
 pub record Row-near (H i r : ℕ) : Type 0 where

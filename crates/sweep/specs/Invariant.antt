@@ -7,8 +7,8 @@ use Rattle.method.specs.Green.{vertical, diagonal}
 use Rattle.records.specs.Held.{Held}
 use Rattle.records.specs.Layout.{final-part, other-part}
 use Rattle.records.specs.Quantities.{trials, greens, finals, others, outputs}
-use Rattle.records.specs.Stages.{Gradients, Plane-size}
-use Rattle.stage_turns.specs.Distances.{Buffers, Chroma-held, Chroma-kept}
+use Rattle.records.specs.Stages.{Gradients, Plane-size, Chroma-held, Chroma-kept}
+use Rattle.stage_turns.specs.Distances.{Buffers}
 
 -- the planes' rows that out has stored; the numbers of earlier stages stand in the rows that it has not reached
 abbrev pub Shown : Frame → ℕ → Colour → List ℤ → Type 0
