@@ -4,6 +4,7 @@ use mathlib.Core.Path.{_≡_, refl}
 use mathlib.Core.List.{List}
 use Prim.Native.Nat.{ℕ, _*_, _≤_}
 use native.Mathlib.Nat.{le-refl}
+use native.Mathlib.Omega.{arith}
 use lib.ListN.{length}
 use Rattle.toolkit.specs.Tests.{ltb-no, eqb-yes, leb-yes}
 use Rattle.frame.specs.declared.Answer.the-variants.{Done}
@@ -11,8 +12,9 @@ use Rattle.frame.specs.Sites.{Frame}
 use Rattle.frame.specs.Calls.{Admitted, lengths-allowed, develop-answer}
 use Rattle.frame.specs.Admission.{admitted-done}
 use Rattle.frame_file.specs.Lists.{Below}
-use Rattle.frame_file.specs.FrameFile.{reading, accepted}
-use Rattle.frame_file.specs.AcceptedExactlyWhenWritten.{accepted-is-written}
+use Rattle.frame_file.specs.FrameFile.{block-count, file-length, reading, accepted}
+use Rattle.frame_file.specs.WrittenFile.{length-written-file}
+use Rattle.frame_file.specs.AcceptedExactlyWhenWritten.{WrittenFrom, accepted-is-written}
 use Rattle.printing.specs.Printing.{lent, frame-text, printed}
 
 pub admitted-developed : (f : Frame) → Admitted f → develop-answer f (lent f) ≡ Done
@@ -21,8 +23,13 @@ admitted-developed f a =
     let n : ℕ = f .height * f .width in
     admitted-done f (lengths-allowed f (lent f)) (rw (eqb-yes {m = n} {n = n} refl, leb-yes {m = 4 * n} {n = 4 * n} (le-refl (4 * n))) tt) a
 
-pub accepted-printed : (file : List ℕ) → Below 256 file → length file ≤ 2048 → (f : Frame) → reading file 1024 ≡ accepted f
-    → printed file ≡ frame-text f
+-- its file is at most 2,048 bytes long: block 0 and three of samples
+accepted-short : (file : List ℕ) (f : Frame) → WrittenFrom f file 1024 → length file ≤ 2048
+unfolding file-length block-count
+accepted-short file f w = rw (w .written) (omega (arith, length-written-file f, w .enough))
+
+pub accepted-printed : (file : List ℕ) → Below 256 file → (f : Frame) → reading file 1024 ≡ accepted f → printed file ≡ frame-text f
 unfolding printed
-accepted-printed file bytes short f e =
-    rw (ltb-no {m = 2048} {n = length file} short, e, admitted-developed f (accepted-is-written file bytes 1024 f e .admitted))
+accepted-printed file bytes f e =
+    let w = accepted-is-written file bytes 1024 f e in
+    rw (ltb-no {m = 2048} {n = length file} (accepted-short file f w), e, admitted-developed f (w .admitted))
