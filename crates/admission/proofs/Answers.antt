@@ -55,13 +55,9 @@ module _ (shape : Shape) {w : Bool} (ew : w ≡ side-allowed (shape .width)) whe
     height-refused count h = rw (sym ew ∙ not-false w hw, sym et ∙ not-true t h)
 
     module _ (ht : not t ≡ false) where
-      pub phase-out : 3 < shape .phase → false ≡ shape-allowed shape
+      pub by-phase : leb (shape .phase) 3 ≡ shape-allowed shape
       unfolding shape-allowed phase-allowed
-      phase-out h = rw (sym ew ∙ not-false w hw, sym et ∙ not-false t ht, leb-no h)
-
-      pub shape-in : shape .phase ≤ 3 → true ≡ shape-allowed shape
-      unfolding shape-allowed phase-allowed
-      shape-in h = rw (sym ew ∙ not-false w hw, sym et ∙ not-false t ht, leb-yes h)
+      by-phase = rw (sym ew ∙ not-false w hw, sym et ∙ not-false t ht)
 
       pub phase-refused : (count : ℕ) → 3 < shape .phase → Refused Phase ≡ shape-answer shape count
       unfolding shape-answer phase-allowed

@@ -1,4 +1,4 @@
-// The tests of a shape and of a mosaic's samples, for the calls that take a frame.
+// The tests of a shape and of a mosaic's samples, for the calls that take a frame or read one.
 use frame::Answer;
 use frame::Refusal;
 use frame::Shape;
@@ -32,10 +32,7 @@ pub fn shape_in_range(shape: Shape) -> bool
     if !side_in_range(shape.height) {
         return false;
     }
-    if shape.phase > 3 {
-        return false;
-    }
-    true
+    shape.phase <= 3
 }
 
 // W·H.

@@ -1,5 +1,5 @@
 -- `admission::shape_in_range` meets its contract. Assumes nothing.
-use Rattle.admission.proofs.Answers.{width-out, height-out, phase-out, shape-in}
+use Rattle.admission.proofs.Answers.{width-out, height-out, by-phase}
 use borrow.Author.Needs.{needs}
 use Rattle.admission.proofs.shape_in_range.Statement.{statement}
 use Rattle.admission.proofs.shape_in_range.Tie as tie
@@ -20,13 +20,8 @@ returns-2 c =
 
 returns-3 : tie.Need-returns-3
 returns-3 c =
-    phase-out _ (c .before .before .before .before .before .side-in-range .ensures) (c .before .before .before .before .if1 .left)
-    (c .before .before .before .side-in-range2 .ensures) (c .before .before .if2 .left) (c .if3 .taken)
-
-returns-4 : tie.Need-returns-4
-returns-4 c =
-    shape-in _ (c .before .before .before .before .before .side-in-range .ensures) (c .before .before .before .before .if1 .left)
-    (c .before .before .before .side-in-range2 .ensures) (c .before .before .if2 .left) (c .if3 .left)
+    by-phase _ (c .before .before .before .before .side-in-range .ensures) (c .before .before .before .if1 .left)
+    (c .before .before .side-in-range2 .ensures) (c .before .if2 .left)
 
 pub shape-in-range-spec : {M : Type 1} → statement M
 shape-in-range-spec =
@@ -36,5 +31,4 @@ shape-in-range-spec =
     returns
     side-in-range-requires-2
     returns-2
-    returns-3
-    returns-4)
+    returns-3)
