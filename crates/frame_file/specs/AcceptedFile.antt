@@ -5,16 +5,16 @@ use mathlib.Core.List.{List}
 use Prim.Native.Nat.{ℕ, zero, suc, _+_, _*_, _-_, _≤_, _<_}
 use native.Mathlib.Nat.{le-of-suc-le-suc}
 use native.Mathlib.Omega.{arith}
-use lib.ListN.{length, drop, length-take}
+use lib.ListN.{length, drop}
 use lib.Seq.{take-all}
 use Rattle.frame.specs.Sites.{highest-sample}
 use Rattle.frame.specs.Calls.{Admitted}
 use Rattle.frame.specs.Admission.{and-true}
-use Rattle.frame_file.specs.Lists.{part, length-part, joined, joined-cong, joined-parts, length-joined, all-zero, Below, below-part, below-joined}
-use Rattle.frame_file.specs.FrameFile.{stored-samples, sample-count, block, header, payload, block-filler, block-samples, block-count, file-length, unpacked-payload, written-block, written-file, stored-frame, filler-holds}
-use Rattle.frame_file.specs.BlockCount.{some-blocks, blocks-hold}
+use Rattle.frame_file.specs.Lists.{part, length-part, joined, joined-cong, joined-parts, all-zero, Below, below-part, below-joined}
+use Rattle.frame_file.specs.FrameFile.{stored-samples, sample-count, block, payload, block-filler, block-samples, block-count, file-length, unpacked-payload, written-block, written-file, stored-frame, filler-holds}
+use Rattle.frame_file.specs.BlockCount.{some-blocks}
 use Rattle.frame_file.specs.Raw10.{length-unpacked-payload, below-unpacked-payload}
-use Rattle.frame_file.specs.BlockSamples.{block-samples-joined}
+use Rattle.frame_file.specs.BlockSamples.{block-samples-joined, length-stored-samples}
 use Rattle.frame_file.specs.BlocksFromTests.{header-from-tests, samples-from-tests}
 use Rattle.frame_file.specs.ReadTests.{Passes, HeaderPasses, allowed-header}
 use Rattle.frame_file.specs.WrittenFile.{payload-of-block}
@@ -70,14 +70,6 @@ module _ (file : List ℕ) (bytes : Below 256 file) (room : ℕ) (p : HeaderPass
       (below-joined 1024 (block-count m - 1) stored (omega arith)
       (λ i. below-unpacked-payload (payload file (suc i)) (below-part 256 file (512 * suc i + 4) 500 bytes)))
 
-  stored-samples-count : length (stored-frame file .samples) ≡ sample-count (stored-frame file)
-  unfolding stored-frame stored-samples
-  stored-samples-count =
-      let m : ℕ = header (block file 0) .height * header (block file 0) .width in
-      let stored : ℕ → List ℕ = λ i. unpacked-payload (payload file (suc i)) in
-      let size = length-joined stored 400 (λ i. length-unpacked-payload (payload file (suc i))) (block-count m - 1) in
-      length-take m (joined (block-count m - 1) stored) ∙ omega (arith, size, blocks-hold m)
-
   pub stored-frame-admitted : Admitted (stored-frame file)
   unfolding stored-frame stored-samples highest-sample
   stored-frame-admitted =
@@ -86,6 +78,6 @@ module _ (file : List ℕ) (bytes : Below 256 file) (room : ℕ) (p : HeaderPass
         width-allowed = rw (a .width-allowed) tt;
         height-allowed = rw (a .height-allowed) tt;
         phase-is-allowed = rw (a .phase-is-allowed) tt;
-        samples-count = stored-samples-count;
+        samples-count = length-stored-samples file _;
         samples-in-range = λ k h. le-of-suc-le-suc (stored-samples-below k);
       }

@@ -6,8 +6,10 @@ use Prim.Native.Nat.{ℕ, suc, _+_, _*_, _-_, _≤_, _<_}
 use native.Mathlib.Omega.{arith}
 use lib.ListN.{length, getD, take, drop, length-append, length-take, length-drop, take-append-drop}
 use lib.Seq.{ext-getD, take-take, take-at, drop-append-add}
-use Rattle.frame_file.specs.Lists.{part, length-part, length-part-min, getD-part, part-take, joined, joined-cong, joined-parts, part-joined, zeros, length-zeros, drop-zeros, getD-append-zeros, all-zero, zeros-all-zero, all-zero-zeros, Below, below-append, below-part, below-zeros}
-use Rattle.frame_file.specs.FrameFile.{filled-up, block-samples}
+use Rattle.frame_file.specs.Lists.{part, length-part, length-part-min, getD-part, part-take, joined, joined-cong, joined-parts, length-joined, part-joined, zeros, length-zeros, drop-zeros, getD-append-zeros, all-zero, zeros-all-zero, all-zero-zeros, Below, below-append, below-part, below-zeros}
+use Rattle.frame_file.specs.FrameFile.{filled-up, block-samples, block-count, payload, unpacked-payload, stored-samples}
+use Rattle.frame_file.specs.BlockCount.{blocks-hold}
+use Rattle.frame_file.specs.Raw10.{length-unpacked-payload}
 
 pub length-filled-up : (s : List ℕ) → length s ≤ 400 → length (filled-up s) ≡ 400
 unfolding filled-up
@@ -79,3 +81,11 @@ module _ (m c : ℕ) (samples : ℕ → List ℕ) (each : (i : ℕ) → length (
       ap (λ (n : ℕ). filled-up (part (take m (joined c samples)) (400 * n) 400)) one
       ∙ ap filled-up (part-take (joined c samples) m (400 * i) 400 ∙ ap (take (m - 400 * i)) (part-joined samples 400 each c i h))
       ∙ filled-up-front (samples i) (m - 400 * i) (each i) z
+
+-- a file's payloads hold as many samples as are asked of them
+pub length-stored-samples : (file : List ℕ) (m : ℕ) → length (stored-samples file m) ≡ m
+unfolding stored-samples
+length-stored-samples file m =
+    let stored : ℕ → List ℕ = λ i. unpacked-payload (payload file (suc i)) in
+    let size = length-joined stored 400 (λ i. length-unpacked-payload (payload file (suc i))) (block-count m - 1) in
+    length-take m (joined (block-count m - 1) stored) ∙ omega (arith, size, blocks-hold m)

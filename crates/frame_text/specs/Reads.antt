@@ -14,8 +14,8 @@ use Rattle.frame.specs.declared.ReadAnswer.the-variants as Read
 use Rattle.frame.specs.Sites.{Frame, frame}
 use Rattle.frame.specs.Calls.{develop-answer}
 use Rattle.frame_file.specs.FrameFile.{Reading, accepted, refused, reading, shape-of, sample-count, block-count, stored-frame, answer-of, samples-of, read-answer, samples-after-read}
+use Rattle.frame_file.specs.BlockSamples.{length-stored-samples}
 use Rattle.frame_file.specs.ReadTests.{header-of-accepted, later-blocks-accepted}
-use Rattle.reader.proofs.Samples.{length-stored-samples}
 use Rattle.printing.specs.Printing.{lent, developed-text, refusal-text, text-of, printed}
 
 -- the samples of an accepted frame are W·H, and there is room for them
@@ -23,15 +23,12 @@ pub record Counted (f : Frame) (room : ℕ) : Type 0 where
   pub enough : sample-count f ≤ room
   pub full : length (f .samples) ≡ sample-count f
 
-stored-full : (file : List ℕ) → length (stored-frame file .samples) ≡ sample-count (stored-frame file)
-unfolding stored-frame
-stored-full file = length-stored-samples file _
-
 accepted-counted : (file : List ℕ) (room : ℕ) (f : Frame) → reading file room ≡ accepted f → Counted f room
+unfolding stored-frame
 accepted-counted file room f e =
     let h = header-of-accepted file room f e in
     let later = later-blocks-accepted file (stored-frame file) f 1 (block-count (sample-count (stored-frame file)) - 1) (h .1) in
-    subst (λ (g : Frame). Counted g room) (later .0) (record { enough = h .0 .enough; full = stored-full file })
+    subst (λ (g : Frame). Counted g room) (later .0) (record { enough = h .0 .enough; full = length-stored-samples file _ })
 
 -- what read answered with a shape
 pub record Frame-read (file before : List ℕ) (shape : Shape) : Type 0 where

@@ -6,20 +6,15 @@ use native.Mathlib.Omega.{arith}
 use lib.ListN.{length, take, drop, length-take, drop-of-length-le}
 use lib.Seq.{take-add, take-at, take-take, take-all, drop-at, drop-drop}
 use borrow.Rule.Slice.PartMut.{putMid, midOf, mid-len, same-len-mid}
-use Rattle.frame_file.specs.Lists.{part, part-take, joined, length-joined, part-joined}
+use Rattle.frame_file.specs.Lists.{part, part-take, joined, part-joined}
 use Rattle.frame_file.specs.FrameFile.{payload, unpacked-payload, block-count, stored-samples}
 use Rattle.frame_file.specs.Raw10.{length-unpacked-payload}
-use Rattle.frame_file.specs.BlockCount.{blocks-hold, block-after-header}
+use Rattle.frame_file.specs.BlockCount.{block-after-header}
+use Rattle.frame_file.specs.BlockSamples.{length-stored-samples}
 
 module _ (file : List ℕ) (m : ℕ) where
   block-samples : ℕ → List ℕ
   block-samples i = unpacked-payload (payload file (suc i))
-
-  pub length-stored-samples : length (stored-samples file m) ≡ m
-  unfolding stored-samples block-samples
-  length-stored-samples =
-      let all = length-joined block-samples 400 (λ i. length-unpacked-payload (payload file (suc i))) (block-count m - 1) in
-      length-take m (joined (block-count m - 1) block-samples) ∙ omega (arith, all, blocks-hold m)
 
   -- the first k samples of block i + 1
   samples-of-block : (i k : ℕ) → 400 * i < m → k ≤ 400 → 400 * i + k ≤ m
