@@ -171,20 +171,13 @@ module _ (f : Frame) (a : Admitted f) (room : ℕ) (enough : sample-count f ≤ 
       (written-block-passes f a n l (omega (arith, in-file)))))
       changed-check
 
-  refused-there : reading (set (written-file f) k v) room ≡ refused (Check (k / 512))
-  refused-there =
+  -- a written file with byte k changed to another byte is refused for its check, at the block of byte k
+  pub one-byte-changed : reading (set (written-file f) k v) room ≡ refused (Check (k / 512))
+  one-byte-changed =
       ⊎-elim (λ (e : k / 512 ≡ 0). changed-in-header e ∙ ap (λ (n : ℕ). refused (Check n)) (sym e)) changed-later
       (eq-zero-or-pos (k / 512))
 
--- a written file with byte k changed to another byte is refused for its check, at the block of byte k
-pub one-byte-changed : (f : Frame) → Admitted f → (room : ℕ) → sample-count f ≤ room
-    → (k v : ℕ) → k < length (written-file f) → v < 256 → ¬ (v ≡ getD (written-file f) k 0)
-    → reading (set (written-file f) k v) room ≡ refused (Check (k / 512))
-one-byte-changed f a room enough k v inside small other = refused-there f a room enough k v inside small other
-
--- the call then returns 7 and that block
-pub one-byte-changed-returns : (f : Frame) → Admitted f → (room : ℕ) → sample-count f ≤ room
-    → (k v : ℕ) → k < length (written-file f) → v < 256 → ¬ (v ≡ getD (written-file f) k 0)
-    → returned-by-read (read-answer (set (written-file f) k v) room) ≡ record { number = 7; place = k / 512 }
-unfolding read-answer
-one-byte-changed-returns f a room enough k v inside small other = rw (one-byte-changed f a room enough k v inside small other)
+  -- the call then returns 7 and that block
+  pub one-byte-changed-returns : returned-by-read (read-answer (set (written-file f) k v) room) ≡ record { number = 7; place = k / 512 }
+  unfolding read-answer
+  one-byte-changed-returns = rw one-byte-changed

@@ -18,7 +18,7 @@ use Rattle.frame.specs.Admission.{done-admitted, admitted-done}
 use Rattle.frame_file.specs.Lists.{Below}
 use Rattle.frame_file.specs.FrameFile.{sample-count, shape-of, file-length, written-file, write-answer, file-after-write, Reading, accepted, refused, answer-of, samples-of, reading, read-answer, samples-after-read}
 use Rattle.frame_file.specs.WrittenFile.{length-written-file}
-use Rattle.frame_file.specs.AcceptedExactlyWhenWritten.{accepted-is-written, accepted-exactly-when-written, written-is-accepted}
+use Rattle.frame_file.specs.AcceptedExactlyWhenWritten.{accepted-is-written, accepted-exactly-when-written}
 
 -- write makes the file of f: lent a buffer of its length, it is done and leaves the file there, whatever stood there before
 pub record Makes (f : Frame) (file : List ℕ) : Type 0 where
@@ -98,7 +98,3 @@ read-yields-what-write-makes file bytes before f = (
       (accepted-exactly-when-written file bytes (length before) f .1
       (record { admitted = w .0; written = w .1; enough = m .1 })),
 )
-
--- what write leaves, read yields, given room
-pub read-back : (f : Frame) → Admitted f → (before : List ℕ) → sample-count f ≤ length before → Yields (written-file f) before f
-read-back f a before enough = accepted-yields (written-file f) before f (written-is-accepted f a (length before) enough)
