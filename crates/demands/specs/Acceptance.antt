@@ -12,7 +12,7 @@ use Rattle.toolkit.specs.Tables.{tabulate, length-tabulate}
 use Rattle.frame.specs.declared.Answer.{Answer}
 use Rattle.frame.specs.declared.Answer.the-variants.{Done, Refused}
 use Rattle.frame.specs.Sites.{Frame, red, green, blue}
-use Rattle.frame.specs.Calls.{returned, lengths-allowed, develop-answer, after, Admitted}
+use Rattle.frame.specs.Calls.{returned, lengths-fit, lengths-allowed, develop-answer, after, Admitted}
 use Rattle.frame.specs.Admission.{and-true}
 use Rattle.method.specs.Planes.{plane}
 use Rattle.method.specs.Comparison.{Accepted}
@@ -23,7 +23,7 @@ use Rattle.demands.specs.WhatCallsLeave.{Buffers, buffers, lengths-of, L
 -- ---- the lengths
 
 pub lengths-yes : (f : Frame) (before : Buffers) → lengths-allowed f (lengths-of before) ≡ true → Lengths-allowed f before
-unfolding lengths-allowed
+unfolding lengths-allowed lengths-fit
 lengths-yes f before e =
     let red = and-true (eqb (length (before .red-plane)) (f .height * f .width)) _ e in
     let green = and-true (eqb (length (before .green-plane)) (f .height * f .width)) _ (red .1) in
@@ -36,7 +36,7 @@ lengths-yes f before e =
     }
 
 pub yes-lengths : (f : Frame) (before : Buffers) → Lengths-allowed f before → lengths-allowed f (lengths-of before) ≡ true
-unfolding lengths-allowed
+unfolding lengths-allowed lengths-fit
 yes-lengths f before a =
     rw (eqb-yes (a .red-length), eqb-yes (a .green-length), eqb-yes (a .blue-length), leb-yes (a .work-length))
 

@@ -8,7 +8,7 @@ use lib.IntN.{ℤ, pos, negsuc, _+ℤ_}
 use lib.ListN.{getD}
 use lib.Signed.{_≤ℤ_}
 use Rattle.frame.specs.Sites.{Frame, Colour, red, green, blue, sample, colour, highest-sample, side-allowed, phase-allowed}
-use Rattle.frame.specs.Calls.{lengths-allowed, samples-answer, answer-in-order, develop-answer, success, returned}
+use Rattle.frame.specs.Calls.{lengths-fit, lengths-allowed, samples-answer, answer-in-order, develop-answer, success, returned}
 use Rattle.method.specs.Comparison.{number-at, Change, changed-by, row-after, column-after, name-after, brightened, Keeps-range}
 use Rattle.method.specs.Acceptance.{accepted-admitted, returned-admitted}
 use Rattle.method.specs.Demand3 as method
@@ -90,7 +90,7 @@ abbrev pub K1-frame : Frame
 K1-frame = record { width = 2; height = 2; phase = 0; samples = 100 ∷ 40 ∷ 61 ∷ 200 ∷ [] }
 
 K1-answer : returned (develop-answer K1-frame (record { red = 4; green = 4; blue = 4; work = 16 })) ≡ success
-unfolding develop-answer answer-in-order lengths-allowed side-allowed phase-allowed samples-answer highest-sample
+unfolding develop-answer answer-in-order lengths-allowed lengths-fit side-allowed phase-allowed samples-answer highest-sample
 K1-answer = refl
 
 pub K1-accepted : Accepted-by-develop K1-frame

@@ -12,11 +12,10 @@ use Rattle.frame.specs.declared.Refusal.the-variants.{BufferLength}
 use Rattle.frame.specs.declared.Answer.{Answer}
 use Rattle.frame.specs.declared.Answer.the-variants.{Done, Refused}
 use Rattle.frame.specs.Sites.{frame}
-use Rattle.frame.specs.Calls.{Lengths, tested, samples-answer, lengths-allowed, develop-answer}
+use Rattle.frame.specs.Calls.{Lengths, tested, samples-answer, lengths-fit, lengths-allowed, develop-answer}
 use Rattle.admission.specs.ShapeTest.{shape-answer, and-then}
 use Rattle.admission.specs.InOrder.{in-order}
 use Rattle.admission.specs.Allowed.{shape-passes}
-use Rattle.develop.specs.LentBuffers.{lengths-fit}
 
 -- ---- the four lengths
 
@@ -60,7 +59,7 @@ module _ (shape : Shape) (mosaic : List ℕ) (l : Lengths) where
 
   module _ (done : shape-answer shape (length mosaic) ≡ Done) {t : Bool} (fit : t ≡ lengths-fit (length mosaic) l) where
     allowed-is : lengths-allowed (frame shape mosaic) l ≡ t
-    unfolding lengths-allowed lengths-fit
+    unfolding lengths-allowed
     allowed-is = ap (λ (n : ℕ). lengths-fit n l) (sym (shape-passes shape (length mosaic) done .samples)) ∙ sym fit
 
     pub lengths-refused : not t ≡ true → Refused BufferLength ≡ answer

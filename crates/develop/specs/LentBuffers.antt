@@ -1,9 +1,6 @@
 -- The buffers that develop is lent. Definitions alone. Assumes nothing.
 use mathlib.Core.Path.{_≡_}
-use mathlib.Core.Bool.{Bool, _&&_}
 use mathlib.Core.List.{List}
-use Prim.Native.Nat.{ℕ, _*_}
-use lib.Dec.{leb, eqb}
 use lib.IntN.{ℤ}
 use lib.ListN.{length}
 use Rattle.frame.specs.declared.Answer.{Answer}
@@ -13,11 +10,6 @@ use Rattle.frame.specs.Calls.{Lengths}
 -- the lengths of the planes and of the work buffer
 abbrev pub lengths : List ℤ → List ℤ → List ℤ → List ℤ → Lengths
 lengths red green blue work = record { red = length red; green = length green; blue = length blue; work = length work }
-
--- the test of the four lengths, for a frame of so many samples
-unfoldable pub lengths-fit : ℕ → Lengths → Bool
-lengths-fit samples l =
-    eqb (l .red) samples && (eqb (l .green) samples && (eqb (l .blue) samples && leb (4 * samples) (l .work)))
 
 -- "Every refusal leaves every buffer untouched."; "After success the work buffer may hold anything;"
 abbrev pub Kept-on-refusal : Answer → List ℤ → List ℤ → Type 0

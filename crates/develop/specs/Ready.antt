@@ -8,7 +8,7 @@ use lib.ListN.{length, List·getD-eq-default}
 use Rattle.toolkit.specs.Tests.{by-test, is-true, leb-le, eqb-eq, ltb-lt, ltb-ge}
 use Rattle.frame.specs.declared.Answer.the-variants.{Done}
 use Rattle.frame.specs.Sites.{Frame, phase-allowed, highest-sample}
-use Rattle.frame.specs.Calls.{Lengths, lengths-allowed, develop-answer, Admitted}
+use Rattle.frame.specs.Calls.{Lengths, lengths-fit, lengths-allowed, develop-answer, Admitted}
 use Rattle.frame.specs.Admission.{and-true, side-low, side-high, done-admitted}
 use Rattle.positions.specs.Taken.{Taken}
 
@@ -34,7 +34,7 @@ admitted-taken f a = record {
 }
 
 pub done-ready : (f : Frame) (l : Lengths) → develop-answer f l ≡ Done → Ready f l
-unfolding develop-answer lengths-allowed
+unfolding develop-answer lengths-allowed lengths-fit
 done-ready f l e =
     let n : ℕ = f .height * f .width in
     let done = done-admitted f (lengths-allowed f l) e in

@@ -5,9 +5,9 @@ use frame::Shape;
 ghost use mathlib.Core.Path.{_≡_};
 ghost use Prim.Native.Nat.{_*_, _≤_};
 ghost use Rattle.frame.specs.Sites.{frame as frame-of, Colour};
-ghost use Rattle.frame.specs.Calls.{develop-answer, after};
+ghost use Rattle.frame.specs.Calls.{lengths-fit, develop-answer, after};
 ghost use Rattle.method.specs.Planes.{plane};
-ghost use Rattle.develop.specs.LentBuffers.{lengths, lengths-fit, Kept-on-refusal};
+ghost use Rattle.develop.specs.LentBuffers.{lengths, Kept-on-refusal};
 ghost use Rattle.develop.specs.Ready.{Ready};
 
 // Whether three planes have `count` entries each, and the work buffer 4·count or more.
@@ -30,7 +30,7 @@ fn lengths_right(count: usize, red: usize, green: usize, blue: usize, work: usiz
     true
 }
 
-// Numbers 1 to 5 in order, from the lengths of the lent buffers. No buffer is touched.
+// Numbers 1 to 5 in order: 1 to 4 from the shape and the lengths, 5 from the samples. No buffer is written.
 fn judge(shape: Shape, mosaic: &[u16], red: usize, green: usize, blue: usize, work: usize) -> Answer
     ensures { λ r. ⌜ r ≡ develop-answer (frame-of shape (now (mosaic .entry))) (record { red = red; green = green; blue = blue; work = work }) ⌝ }
 {

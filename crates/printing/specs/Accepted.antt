@@ -9,7 +9,7 @@ use lib.ListN.{length}
 use Rattle.toolkit.specs.Tests.{ltb-no, eqb-yes, leb-yes}
 use Rattle.frame.specs.declared.Answer.the-variants.{Done}
 use Rattle.frame.specs.Sites.{Frame}
-use Rattle.frame.specs.Calls.{Admitted, lengths-allowed, develop-answer}
+use Rattle.frame.specs.Calls.{Admitted, lengths-fit, lengths-allowed, develop-answer}
 use Rattle.frame.specs.Admission.{admitted-done}
 use Rattle.frame_file.specs.Lists.{Below}
 use Rattle.frame_file.specs.FrameFile.{block-count, file-length, reading, accepted}
@@ -18,7 +18,7 @@ use Rattle.frame_file.specs.AcceptedExactlyWhenWritten.{WrittenFrom, accepted-i
 use Rattle.printing.specs.Printing.{lent, frame-text, printed}
 
 pub admitted-developed : (f : Frame) → Admitted f → develop-answer f (lent f) ≡ Done
-unfolding develop-answer lengths-allowed
+unfolding develop-answer lengths-allowed lengths-fit
 admitted-developed f a =
     let n : ℕ = f .height * f .width in
     admitted-done f (lengths-allowed f (lent f)) (rw (eqb-yes {m = n} {n = n} refl, leb-yes {m = 4 * n} {n = 4 * n} (le-refl (4 * n))) tt) a
