@@ -105,7 +105,7 @@ fn develop_frame(
     }
 }
 
-// The text of a file of at most 2,048 bytes, by buffers for 1,024 samples.
+// The text of what read finds in a file, by buffers for 1,024 samples.
 fn read_file(
     file: &[u8],
     text: &mut [u8],

@@ -1,11 +1,10 @@
--- `payload::zero_from` meets its contract. The invariant: the samples before position k are zero. Assumes nothing.
-use Rattle.payload.proofs.Groups.{zero-on, zero-stop}
+-- `payload::zero_from` meets its contract. The invariant: the samples from position `from` up to k are zero. Assumes nothing.
+use Rattle.payload.proofs.Groups.{zero-on, zero-stop, zero-end}
 use mathlib.Core.Path.{_≡_, refl, sym, _∙_}
 use Prim.Native.Nat.{_-_}
 use lib.ListN.{drop}
 use Rattle.frame_file.specs.Lists.{all-zero}
 use Rattle.frame_file.specs.FrameFile.{unpacked-payload}
-use Rattle.payload.proofs.Groups.{zero-end}
 use native.Mathlib.Omega.{arith}
 use borrow.Author.Needs.{needs}
 use Rattle.payload.proofs.zero_from.Statement.{statement}
