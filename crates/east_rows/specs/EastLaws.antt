@@ -11,16 +11,15 @@ use Rattle.positions.specs.Taken.{Taken}
 use Rattle.records.specs.Quantities.{wests}
 use Rattle.mosaic_rows.specs.LoadedRows.{Loaded}
 use Rattle.mosaic_rows.specs.LoadLaws.{loaded-ranged}
-use Rattle.mosaic_rows.specs.Around.{row-off, column-off}
+use Rattle.mosaic_rows.specs.Around.{loaded-around, row-off, column-off}
 use Rattle.east_rows.specs.RowSums.{Small, along-at, east-at}
 use Rattle.east_rows.specs.EastRows.{East-reads}
-use Rattle.east_rows.specs.Cells.{cell}
 
 -- a of row i + r two columns west of column j, which is at entry j + 6
 module _ (f : Frame) (i j : ℕ) (r : ℤ) (at : ℕ) (rows : List ℕ)
     (row : Loaded f (reflect (f .height) (pos i +ℤ r)) at rows) (near : j < f .width + 2) where
   read : (n k : ℕ) → n ≤ 10 → k ≡ at + (j + n) → pos (getD rows k 0) ≡ samples-around (mosaic f) i j r (subℕ n 8)
-  read n k h e = ap (λ (x : ℕ). pos (getD rows x 0)) e ∙ cell f i j r (subℕ n 8) at (j + n) rows row (omega arith) (column-off j n)
+  read n k h e = ap (λ (x : ℕ). pos (getD rows x 0)) e ∙ loaded-around f i j r (subℕ n 8) at (j + n) rows row (omega arith) (column-off j n)
 
   along-of : along-at rows (at + 6 + j) ≡ six-tap-pair (samples-around (mosaic f) i j) r (negℤ (pos 2))
   unfolding along-at six-tap-pair six-tap

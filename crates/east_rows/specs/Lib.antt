@@ -1,6 +1,5 @@
 pub mod RowSums
 pub mod EastRows
 pub mod SumLaws
-pub mod Cells
 pub mod EastLaws
 pub mod LineLaws

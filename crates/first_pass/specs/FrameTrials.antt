@@ -31,7 +31,6 @@ own-difference f d i j = less-eight (estimate d (samples-around (mosaic f) i j))
 module _ (f : Frame) (i j : ℕ) (at rows : List ℕ) (s : Seven f (i + 2) at rows) (inside : j < f .width) where
   -- entry j + n of the p-th row
   cell : (p n a : ℕ) → p < 7 → n ≤ 10 → getD at p 0 + (j + n) ≡ a → pos (getD rows a 0) ≡ samples-around (mosaic f) i j (subℕ p 2) (subℕ n 8)
-  unfolding mosaic
   cell p n a h l e =
       ap (λ (y : ℕ). pos (getD rows y 0)) (sym e)
       ∙ seven-around f i j (subℕ p 2) (subℕ n 8) (i + 2) p (j + n) at rows s h (omega arith) (row-off i p) (column-off j n)

@@ -41,7 +41,6 @@ module _ (f : Frame) (x : ℕ) (at rows : List ℕ) (s : Seven f x at rows) (j :
   -- entry k, where column k − 8 is column j + c
   cell : (k : ℕ) (c : ℤ) → natAbs (pos (j + 8) +ℤ c) ≡ k → subℕ k 8 ≡ pos j +ℤ c → k < f .width + 16 → (n : ℕ) → n ≤ 6
       → seven-rows rows at (j + 8) (negℤ (pos 2) +ℤ subℕ n 2) c ≡ samples-around (mosaic f) x j (negℤ (pos 2) +ℤ subℕ n 2) c
-  unfolding mosaic
   cell k c a e h n l =
       at-place rows at (j + 8) n k (negℤ (pos 2) +ℤ subℕ n 2) c (place-of n) a
       ∙ seven-around f x j (negℤ (pos 2) +ℤ subℕ n 2) c x n k at rows s (omega arith) h (row-of x n) e
