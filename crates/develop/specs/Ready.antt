@@ -3,13 +3,12 @@
 use mathlib.Core.Path.{_≡_}
 use Prim.Native.Nat.{ℕ, _*_, _≤_}
 use native.Mathlib.Omega.{arith}
-use lib.Dec.{leb, eqb, ltb}
-use lib.ListN.{length, List·getD-eq-default}
-use Rattle.toolkit.specs.Tests.{by-test, is-true, leb-le, eqb-eq, ltb-lt, ltb-ge}
+use lib.Dec.{leb, eqb}
+use Rattle.toolkit.specs.Tests.{is-true, leb-le, eqb-eq}
 use Rattle.frame.specs.declared.Answer.the-variants.{Done}
-use Rattle.frame.specs.Sites.{Frame, phase-allowed, highest-sample}
+use Rattle.frame.specs.Sites.{Frame, highest-sample}
 use Rattle.frame.specs.Calls.{Lengths, lengths-fit, lengths-allowed, develop-answer, Admitted}
-use Rattle.frame.specs.Admission.{and-true, side-low, side-high, done-admitted}
+use Rattle.frame.specs.Admission.{and-true, side-low, side-high, phase-high, sample-high, done-admitted}
 use Rattle.positions.specs.Taken.{Taken}
 
 pub record Ready (f : Frame) (l : Lengths) : Type 0 where
@@ -20,17 +19,15 @@ pub record Ready (f : Frame) (l : Lengths) : Type 0 where
   pub work-size : f .height * (4 * f .width) ≤ l .work
 
 pub admitted-taken : (f : Frame) → Admitted f → Taken f
-unfolding phase-allowed highest-sample
+unfolding highest-sample
 admitted-taken f a = record {
   wide = side-low (a .width-allowed);
   narrow = side-high (a .width-allowed);
   tall = side-low (a .height-allowed);
   low = side-high (a .height-allowed);
-  phase-small = leb-le (f .phase) 3 (is-true _ (a .phase-is-allowed));
+  phase-small = phase-high (a .phase-is-allowed);
   full = a .samples-count;
-  ranged = λ k. by-test (ltb k (length (f .samples))) _
-      (λ t. a .samples-in-range k (ltb-lt _ _ t))
-      (λ t. rw (List·getD-eq-default (f .samples) 0 {n = k} (ltb-ge _ _ t)) (omega arith));
+  ranged = sample-high f a;
 }
 
 pub done-ready : (f : Frame) (l : Lengths) → develop-answer f l ≡ Done → Ready f l

@@ -5,13 +5,12 @@ use mathlib.Core.List.{List}
 use Prim.Native.Nat.{ℕ, zero, suc, _*_, _-_, _%_, _≤_, _<_}
 use native.Mathlib.Nat.{mul-le-mul, le-refl}
 use native.Mathlib.Omega.{arith}
-use lib.Dec.{T}
 use lib.ListN.{length, take, drop}
-use Rattle.toolkit.specs.Tests.{is-true, leb-le, leb-yes, eqb-yes}
+use Rattle.toolkit.specs.Tests.{is-true, leb-yes, eqb-yes}
 use Rattle.frame.specs.declared.Shape.{Shape}
 use Rattle.frame.specs.Sites.{Frame, frame, side-allowed, phase-allowed, highest-sample}
 use Rattle.frame.specs.Calls.{Admitted}
-use Rattle.frame.specs.Admission.{side-high}
+use Rattle.frame.specs.Admission.{side-high, phase-high}
 use Rattle.frame_file.specs.Lists.{part, part-part, joined, joined-cong, length-joined, part-joined, all-zero, Below, below-from, below-joined}
 use Rattle.frame_file.specs.FrameFile.{stored-samples, sample-count, shape-of, block, header, payload, block-samples, block-count, file-length, unpacked-payload, with-check, header-bytes, sample-bytes, written-block, written-file, stored-frame, length-allowed, check-holds, header-allowed, filler-holds}
 use Rattle.frame_file.specs.BlockCount.{some-blocks, block-count-most, blocks-hold}
@@ -20,10 +19,6 @@ use Rattle.frame_file.specs.Raw10.{unpacked-packed-payload}
 use Rattle.frame_file.specs.BlockSamples.{below-block-samples, length-block-samples, block-samples-zero, joined-block-samples}
 use Rattle.frame_file.specs.WrittenBlocks.{below-header-bytes, below-sample-bytes, header-check-holds, header-number-holds, header-has-tag, header-of-bytes, header-filler-zero, samples-check-holds, samples-number-holds, payload-in-block, block-filler-zero, length-written-block}
 use Rattle.frame_file.specs.ReadTests.{Passes, HeaderPasses}
-
-phase-high : {p : ℕ} → T (phase-allowed p) → p ≤ 3
-unfolding phase-allowed
-phase-high {p} t = leb-le p 3 (is-true _ t)
 
 -- the payload of a block is its bytes 4..503
 pub payload-of-block : (file : List ℕ) (n : ℕ) → payload file n ≡ part (block file n) 4 500

@@ -1,16 +1,15 @@
 -- Develop refuses no frame that read accepts: of a file of bytes that holds a frame of at most 1,024 samples the program prints that
 -- frame's text. Assumes nothing.
-use mathlib.Core.Path.{_≡_, refl}
+use mathlib.Core.Path.{_≡_}
 use mathlib.Core.List.{List}
-use Prim.Native.Nat.{ℕ, _*_, _≤_}
-use native.Mathlib.Nat.{le-refl}
+use Prim.Native.Nat.{ℕ, _≤_}
 use native.Mathlib.Omega.{arith}
 use lib.ListN.{length}
-use Rattle.toolkit.specs.Tests.{ltb-no, eqb-yes, leb-yes}
+use Rattle.toolkit.specs.Tests.{ltb-no}
 use Rattle.frame.specs.declared.Answer.the-variants.{Done}
 use Rattle.frame.specs.Sites.{Frame}
-use Rattle.frame.specs.Calls.{Admitted, lengths-fit, lengths-allowed, develop-answer}
-use Rattle.frame.specs.Admission.{admitted-done}
+use Rattle.frame.specs.Calls.{Admitted, lengths-allowed, develop-answer}
+use Rattle.frame.specs.Admission.{least-allowed, admitted-done}
 use Rattle.frame_file.specs.Lists.{Below}
 use Rattle.frame_file.specs.FrameFile.{block-count, file-length, reading, accepted}
 use Rattle.frame_file.specs.WrittenFile.{length-written-file}
@@ -18,10 +17,8 @@ use Rattle.frame_file.specs.AcceptedExactlyWhenWritten.{WrittenFrom, accepted-i
 use Rattle.printing.specs.Printing.{lent, frame-text, printed}
 
 pub admitted-developed : (f : Frame) → Admitted f → develop-answer f (lent f) ≡ Done
-unfolding develop-answer lengths-allowed lengths-fit
-admitted-developed f a =
-    let n : ℕ = f .height * f .width in
-    admitted-done f (lengths-allowed f (lent f)) (rw (eqb-yes {m = n} {n = n} refl, leb-yes {m = 4 * n} {n = 4 * n} (le-refl (4 * n))) tt) a
+unfolding develop-answer
+admitted-developed f a = admitted-done f (lengths-allowed f (lent f)) (least-allowed f) a
 
 -- its file is at most 2,048 bytes long: block 0 and three of samples
 accepted-short : (file : List ℕ) (f : Frame) → WrittenFrom f file 1024 → length file ≤ 2048

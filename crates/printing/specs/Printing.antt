@@ -10,7 +10,7 @@ use Rattle.frame.specs.declared.Refusal.the-variants.{BufferLength}
 use Rattle.frame.specs.declared.Answer.{Answer}
 use Rattle.frame.specs.declared.Answer.the-variants.{Done, Refused}
 use Rattle.frame.specs.Sites.{Frame, Colour, red, green, blue}
-use Rattle.frame.specs.Calls.{Lengths, number-and-place, clamped, develop-answer}
+use Rattle.frame.specs.Calls.{Lengths, least-lengths, number-and-place, clamped, develop-answer}
 use Rattle.method.specs.Planes.{plane}
 use Rattle.frame_file.specs.Lists.{joined}
 use Rattle.frame_file.specs.FrameFile as File
@@ -66,7 +66,7 @@ frame-text f = heading ++ joined (f .height * f .width) (λ k. site-text f (k / 
 
 -- the lengths of the planes and of the work buffer that the program lends to develop
 abbrev pub lent : Frame → Lengths
-lent f = record { red = f .height * f .width; green = f .height * f .width; blue = f .height * f .width; work = 4 * (f .height * f .width) }
+lent f = least-lengths f
 
 -- what is printed by develop's answer
 abbrev pub developed-text : Frame → Answer → List ℕ
