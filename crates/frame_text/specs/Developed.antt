@@ -19,21 +19,22 @@ use Rattle.frame_text.specs.Buffers.{Planes-lent}
 use Rattle.frame_text.specs.PlanesText.{planes-text, Clamped, clamped-clamped, length-clamped, frame-text-planes}
 
 -- what develop was lent, answered and left, and what clamp made of it
-pub record Left (f : Frame) (red green blue work : List ℤ) (a : Answer) (red1 green1 blue1 reds greens blues : List ℤ) : Type 0 where
+pub record Left (f : Frame) (red green blue work : List ℤ) (a : Answer)
+    (red1 green1 blue1 clamped-red clamped-green clamped-blue : List ℤ) : Type 0 where
   pub answered : a ≡ develop-answer f (lengths red green blue work)
   pub done : a ≡ Done
   pub red-left : red1 ≡ after a (plane f Colour.red) red
   pub green-left : green1 ≡ after a (plane f Colour.green) green
   pub blue-left : blue1 ≡ after a (plane f Colour.blue) blue
-  pub reds-left : reds ≡ clamped red1
-  pub greens-left : greens ≡ clamped green1
-  pub blues-left : blues ≡ clamped blue1
+  pub clamped-red-left : clamped-red ≡ clamped red1
+  pub clamped-green-left : clamped-green ≡ clamped green1
+  pub clamped-blue-left : clamped-blue ≡ clamped blue1
 
 after-done : (a : Answer) (filled before left : List ℤ) → a ≡ Done → left ≡ after a filled before → left ≡ filled
 after-done a filled before left d e = e ∙ rw d
 
-module _ (shape : Shape) (mosaic : List ℕ) {red green blue work reds greens blues : List ℤ}
-    (p : Planes-lent (shape .height * shape .width) red green blue work reds greens blues) where
+module _ (shape : Shape) (mosaic : List ℕ) {red green blue work clamped-red clamped-green clamped-blue : List ℤ}
+    (p : Planes-lent (shape .height * shape .width) red green blue work clamped-red clamped-green clamped-blue) where
   answer-lent : develop-answer (frame shape mosaic) (lengths red green blue work)
       ≡ develop-answer (frame shape mosaic) (lent (frame shape mosaic))
   answer-lent = rw (p .red-size, p .green-size, p .blue-size, p .work-size)
@@ -42,33 +43,37 @@ module _ (shape : Shape) (mosaic : List ℕ) {red green blue work reds greens bl
       → refusal-text why ≡ developed-text (frame shape mosaic) (develop-answer (frame shape mosaic) (lent (frame shape mosaic)))
   refused-text a why e r = rw (← answer-lent, ← e, r)
 
-  module _ {a : Answer} {red1 green1 blue1 reds1 greens1 blues1 : List ℤ}
-      (l : Left (frame shape mosaic) red green blue work a red1 green1 blue1 reds1 greens1 blues1) where
-    is-red : reds1 ≡ clamped (plane (frame shape mosaic) Colour.red)
-    is-red = l .reds-left ∙ ap clamped (after-done a _ _ _ (l .done) (l .red-left))
+  module _ {a : Answer} {red1 green1 blue1 clamped-red1 clamped-green1 clamped-blue1 : List ℤ}
+      (l : Left (frame shape mosaic) red green blue work a red1 green1 blue1 clamped-red1 clamped-green1 clamped-blue1) where
+    is-red : clamped-red1 ≡ clamped (plane (frame shape mosaic) Colour.red)
+    is-red = l .clamped-red-left ∙ ap clamped (after-done a _ _ _ (l .done) (l .red-left))
 
-    is-green : greens1 ≡ clamped (plane (frame shape mosaic) Colour.green)
-    is-green = l .greens-left ∙ ap clamped (after-done a _ _ _ (l .done) (l .green-left))
+    is-green : clamped-green1 ≡ clamped (plane (frame shape mosaic) Colour.green)
+    is-green = l .clamped-green-left ∙ ap clamped (after-done a _ _ _ (l .done) (l .green-left))
 
-    is-blue : blues1 ≡ clamped (plane (frame shape mosaic) Colour.blue)
-    is-blue = l .blues-left ∙ ap clamped (after-done a _ _ _ (l .done) (l .blue-left))
+    is-blue : clamped-blue1 ≡ clamped (plane (frame shape mosaic) Colour.blue)
+    is-blue = l .clamped-blue-left ∙ ap clamped (after-done a _ _ _ (l .done) (l .blue-left))
 
     pub wide : 0 < shape .width
     wide = omega (arith, done-ready _ _ (sym (l .answered) ∙ l .done) .taken .wide)
 
-    pub red-length : length reds1 ≡ shape .height * shape .width
+    pub red-length : length clamped-red1 ≡ shape .height * shape .width
     red-length = ap length is-red ∙ length-clamped (frame shape mosaic) Colour.red
 
-    pub green-length : length greens1 ≡ length reds1
+    pub green-length : length clamped-green1 ≡ length clamped-red1
     green-length = ap length is-green ∙ (length-clamped (frame shape mosaic) Colour.green ∙ sym red-length)
 
-    pub blue-length : length blues1 ≡ length reds1
+    pub blue-length : length clamped-blue1 ≡ length clamped-red1
     blue-length = ap length is-blue ∙ (length-clamped (frame shape mosaic) Colour.blue ∙ sym red-length)
 
-    pub all-clamped : Clamped reds1 × Clamped greens1 × Clamped blues1
-    all-clamped = (rw (l .reds-left) (clamped-clamped red1), rw (l .greens-left) (clamped-clamped green1), rw (l .blues-left) (clamped-clamped blue1))
+    pub all-clamped : Clamped clamped-red1 × Clamped clamped-green1 × Clamped clamped-blue1
+    all-clamped = (
+      rw (l .clamped-red-left) (clamped-clamped red1),
+      rw (l .clamped-green-left) (clamped-clamped green1),
+      rw (l .clamped-blue-left) (clamped-clamped blue1),
+    )
 
-    pub done-text : planes-text (shape .width) reds1 greens1 blues1
+    pub done-text : planes-text (shape .width) clamped-red1 clamped-green1 clamped-blue1
         ≡ developed-text (frame shape mosaic) (develop-answer (frame shape mosaic) (lent (frame shape mosaic)))
     done-text =
         rw (is-red, is-green, is-blue, ← answer-lent, ← l .answered, l .done) (frame-text-planes (frame shape mosaic))

@@ -57,7 +57,7 @@ fn lines(
 }
 
 // The heading and the lines.
-fn planes(text: &mut [u8], width: usize, red: &[i32], green: &[i32], blue: &[i32]) -> usize
+fn planes_text(text: &mut [u8], width: usize, red: &[i32], green: &[i32], blue: &[i32]) -> usize
     requires { ⌜ (0 < width) × (length (now green) ≡ length (now red)) × (length (now blue) ≡ length (now red)) ⌝ }
     requires { ⌜ (Clamped (now red)) × (Clamped (now green)) × (Clamped (now blue)) ⌝ }
     requires { ⌜ (length (now red) ≤ 1024) × (25623 ≤ length (now text)) ⌝ }
@@ -76,7 +76,7 @@ fn clamp_plane(plane: &[i32], filled: &mut [i32])
 }
 
 // The text of a frame: developed, clamped and printed, or develop's refusal.
-fn develop_frame(
+fn developed_text(
     text: &mut [u8],
     shape: Shape,
     mosaic: &[u16],
@@ -84,12 +84,13 @@ fn develop_frame(
     green: &mut [i32],
     blue: &mut [i32],
     work: &mut [i32],
-    reds: &mut [i32],
-    greens: &mut [i32],
-    blues: &mut [i32],
+    clamped_red: &mut [i32],
+    clamped_green: &mut [i32],
+    clamped_blue: &mut [i32],
 ) -> usize
     requires { ⌜ (shape .height * shape .width ≤ 1024) × (25623 ≤ length (now text)) ⌝ }
-    requires { ⌜ Planes-lent (shape .height * shape .width) (now red) (now green) (now blue) (now work) (now reds) (now greens) (now blues) ⌝ }
+    requires { ⌜ Planes-lent (shape .height * shape .width) (now red) (now green) (now blue) (now work)
+        (now «clamped_red») (now «clamped_green») (now «clamped_blue») ⌝ }
     ensures { λ r. ⌜ Put (now (text .entry)) 0
         (developed-text (frame-of shape (now (mosaic .entry))) (develop-answer (frame-of shape (now (mosaic .entry))) (lent (frame-of shape (now (mosaic .entry))))))
         (now (text .exit)) r ⌝ }
@@ -97,16 +98,16 @@ fn develop_frame(
     match develop::develop(shape, mosaic, red, green, blue, work) {
         Answer::Refused(why) => text::refusal(text, why),
         Answer::Done => {
-            clamp_plane(red, reds);
-            clamp_plane(green, greens);
-            clamp_plane(blue, blues);
-            planes(text, shape.width, reds, greens, blues)
+            clamp_plane(red, clamped_red);
+            clamp_plane(green, clamped_green);
+            clamp_plane(blue, clamped_blue);
+            planes_text(text, shape.width, clamped_red, clamped_green, clamped_blue)
         }
     }
 }
 
 // The text of what read finds in a file, by buffers for 1,024 samples.
-fn read_file(
+fn file_text(
     file: &[u8],
     text: &mut [u8],
     samples: &mut [u16],
@@ -114,12 +115,12 @@ fn read_file(
     green: &mut [i32],
     blue: &mut [i32],
     work: &mut [i32],
-    reds: &mut [i32],
-    greens: &mut [i32],
-    blues: &mut [i32],
+    clamped_red: &mut [i32],
+    clamped_green: &mut [i32],
+    clamped_blue: &mut [i32],
 ) -> usize
     requires { ⌜ (25623 ≤ length (now text)) × (length (now samples) ≡ 1024) ⌝ }
-    requires { ⌜ Planes-lent 1024 (now red) (now green) (now blue) (now work) (now reds) (now greens) (now blues) ⌝ }
+    requires { ⌜ Planes-lent 1024 (now red) (now green) (now blue) (now work) (now «clamped_red») (now «clamped_green») (now «clamped_blue») ⌝ }
     ensures { λ r. ⌜ Put (now (text .entry)) 0 (text-of (reading (now (file .entry)) 1024)) (now (text .exit)) r ⌝ }
 {
     match reader::read(file, samples) {
@@ -127,7 +128,7 @@ fn read_file(
         ReadAnswer::Frame(shape) => {
             let count = shape.height * shape.width;
             let size = 4 * count;
-            develop_frame(
+            developed_text(
                 text,
                 shape,
                 &samples[0..count],
@@ -135,9 +136,9 @@ fn read_file(
                 &mut green[0..count],
                 &mut blue[0..count],
                 &mut work[0..size],
-                &mut reds[0..count],
-                &mut greens[0..count],
-                &mut blues[0..count],
+                &mut clamped_red[0..count],
+                &mut clamped_green[0..count],
+                &mut clamped_blue[0..count],
             )
         }
     }
@@ -159,10 +160,10 @@ pub fn compose(file: &[u8], text: &mut [u8]) -> usize
     let mut green = [0i32; 1024];
     let mut blue = [0i32; 1024];
     let mut work = [0i32; 4096];
-    let mut reds = [0i32; 1024];
-    let mut greens = [0i32; 1024];
-    let mut blues = [0i32; 1024];
-    read_file(
+    let mut clamped_red = [0i32; 1024];
+    let mut clamped_green = [0i32; 1024];
+    let mut clamped_blue = [0i32; 1024];
+    file_text(
         file,
         text,
         &mut samples,
@@ -170,8 +171,8 @@ pub fn compose(file: &[u8], text: &mut [u8]) -> usize
         &mut green,
         &mut blue,
         &mut work,
-        &mut reds,
-        &mut greens,
-        &mut blues,
+        &mut clamped_red,
+        &mut clamped_green,
+        &mut clamped_blue,
     )
 }

@@ -20,32 +20,32 @@ returns-2 c =
     let tested = called .before .before in
     text-put (tested .before .if1 .left) (long-printed _ (tested .if2 .taken)) (called .refusal .ensures)
 
-slice-aggregate-read-file : tie.Need-slice-aggregate-read-file
-slice-aggregate-read-file c = search needs
+slice-aggregate-file-text : tie.Need-slice-aggregate-file-text
+slice-aggregate-file-text c = search needs
 
-slice-aggregate-read-file-2 : tie.Need-slice-aggregate-read-file-2
-slice-aggregate-read-file-2 c = search needs
+slice-aggregate-file-text-2 : tie.Need-slice-aggregate-file-text-2
+slice-aggregate-file-text-2 c = search needs
 
-slice-aggregate-read-file-3 : tie.Need-slice-aggregate-read-file-3
-slice-aggregate-read-file-3 c = search needs
+slice-aggregate-file-text-3 : tie.Need-slice-aggregate-file-text-3
+slice-aggregate-file-text-3 c = search needs
 
-slice-aggregate-read-file-4 : tie.Need-slice-aggregate-read-file-4
-slice-aggregate-read-file-4 c = search needs
+slice-aggregate-file-text-4 : tie.Need-slice-aggregate-file-text-4
+slice-aggregate-file-text-4 c = search needs
 
-slice-aggregate-read-file-5 : tie.Need-slice-aggregate-read-file-5
-slice-aggregate-read-file-5 c = search needs
+slice-aggregate-file-text-5 : tie.Need-slice-aggregate-file-text-5
+slice-aggregate-file-text-5 c = search needs
 
-slice-aggregate-read-file-6 : tie.Need-slice-aggregate-read-file-6
-slice-aggregate-read-file-6 c = search needs
+slice-aggregate-file-text-6 : tie.Need-slice-aggregate-file-text-6
+slice-aggregate-file-text-6 c = search needs
 
-slice-aggregate-read-file-7 : tie.Need-slice-aggregate-read-file-7
-slice-aggregate-read-file-7 c = search needs
+slice-aggregate-file-text-7 : tie.Need-slice-aggregate-file-text-7
+slice-aggregate-file-text-7 c = search needs
 
-slice-aggregate-read-file-8 : tie.Need-slice-aggregate-read-file-8
-slice-aggregate-read-file-8 c = search needs
+slice-aggregate-file-text-8 : tie.Need-slice-aggregate-file-text-8
+slice-aggregate-file-text-8 c = search needs
 
-read-file-requires : tie.Need-read-file-requires
-read-file-requires c κs = search needs
+file-text-requires : tie.Need-file-text-requires
+file-text-requires c κs = search needs
 
 same-length-2 : tie.Need-same-length-2
 same-length-2 c = search needs
@@ -54,7 +54,7 @@ returns-3 : tie.Need-returns-3
 returns-3 c =
     let called = c .before .before .before .before .before .before .before .before .before .before in
     let tested = called .before .before .before .before .before .before .before .before .before .before in
-    text-put (tested .before .if1 .left) (short-printed _ (tested .if2 .left)) (called .read-file .ensures)
+    text-put (tested .before .if1 .left) (short-printed _ (tested .if2 .left)) (called .file-text .ensures)
 
 pub compose-spec : {M : Type 1} → statement M
 compose-spec =
@@ -64,14 +64,14 @@ compose-spec =
     refusal-requires
     same-length
     returns-2
-    slice-aggregate-read-file
-    slice-aggregate-read-file-2
-    slice-aggregate-read-file-3
-    slice-aggregate-read-file-4
-    slice-aggregate-read-file-5
-    slice-aggregate-read-file-6
-    slice-aggregate-read-file-7
-    slice-aggregate-read-file-8
-    read-file-requires
+    slice-aggregate-file-text
+    slice-aggregate-file-text-2
+    slice-aggregate-file-text-3
+    slice-aggregate-file-text-4
+    slice-aggregate-file-text-5
+    slice-aggregate-file-text-6
+    slice-aggregate-file-text-7
+    slice-aggregate-file-text-8
+    file-text-requires
     same-length-2
     returns-3)

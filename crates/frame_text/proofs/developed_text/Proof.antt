@@ -1,10 +1,10 @@
--- `frame_text::develop_frame` meets its contract. Assumes nothing.
+-- `frame_text::developed_text` meets its contract. Assumes nothing.
 use Rattle.text.specs.Put.{put-as}
 use Rattle.frame_text.specs.Developed.{Left, refused-text, wide, red-length, green-length, blue-length, all-clamped, done-text}
 use native.Mathlib.Omega.{arith}
 use borrow.Author.Needs.{needs}
-use Rattle.frame_text.proofs.develop_frame.Statement.{statement}
-use Rattle.frame_text.proofs.develop_frame.Tie as tie
+use Rattle.frame_text.proofs.developed_text.Statement.{statement}
+use Rattle.frame_text.proofs.developed_text.Tie as tie
 
 develop-requires : tie.Need-develop-requires
 develop-requires c κs = search needs
@@ -27,8 +27,8 @@ clamp-plane-requires-2 c κs = search needs
 clamp-plane-requires-3 : tie.Need-clamp-plane-requires-3
 clamp-plane-requires-3 c κs = search needs
 
-planes-requires : tie.Need-planes-requires
-planes-requires c κs =
+planes-text-requires : tie.Need-planes-text-requires
+planes-text-requires c κs =
     let blue = c .before .before .before .before .before in
     let green = blue .before .before .before .before in
     let red = green .before .before .before .before in
@@ -41,9 +41,9 @@ planes-requires c κs =
       red-left = called .develop .ensures .1 .0;
       green-left = called .develop .ensures .1 .1 .0;
       blue-left = called .develop .ensures .1 .1 .1 .0;
-      reds-left = red .clamp-plane .ensures;
-      greens-left = green .clamp-plane2 .ensures;
-      blues-left = blue .clamp-plane3 .ensures;
+      clamped-red-left = red .clamp-plane .ensures;
+      clamped-green-left = green .clamp-plane2 .ensures;
+      clamped-blue-left = blue .clamp-plane3 .ensures;
     } in
     let shape = start .args .shape in
     let mosaic = start .args .mosaic .now in
@@ -113,17 +113,17 @@ returns-2 c =
       red-left = called .develop .ensures .1 .0;
       green-left = called .develop .ensures .1 .1 .0;
       blue-left = called .develop .ensures .1 .1 .1 .0;
-      reds-left = red .clamp-plane .ensures;
-      greens-left = green .clamp-plane2 .ensures;
-      blues-left = blue .clamp-plane3 .ensures;
+      clamped-red-left = red .clamp-plane .ensures;
+      clamped-green-left = green .clamp-plane2 .ensures;
+      clamped-blue-left = blue .clamp-plane3 .ensures;
     } in
     let shape = start .args .shape in
     let mosaic = start .args .mosaic .now in
     let p = start .pre .1 in
-    put-as (done-text shape mosaic p l) (c .before .before .planes .ensures)
+    put-as (done-text shape mosaic p l) (c .before .before .planes-text .ensures)
 
-pub develop-frame-spec : {M : Type 1} → statement M
-develop-frame-spec =
+pub developed-text-spec : {M : Type 1} → statement M
+developed-text-spec =
     tie.close
     (tie.spec
     develop-requires
@@ -133,7 +133,7 @@ develop-frame-spec =
     clamp-plane-requires
     clamp-plane-requires-2
     clamp-plane-requires-3
-    planes-requires
+    planes-text-requires
     same-length
     same-length-2
     same-length-3

@@ -1,9 +1,9 @@
--- `frame_text::planes` meets its contract. Assumes nothing.
+-- `frame_text::planes_text` meets its contract. Assumes nothing.
 use Rattle.printing.specs.Printing.{heading}
 use Rattle.frame_text.specs.Composing.{lines-room, planes-put}
 use borrow.Author.Needs.{needs}
-use Rattle.frame_text.proofs.planes.Statement.{statement}
-use Rattle.frame_text.proofs.planes.Tie as tie
+use Rattle.frame_text.proofs.planes_text.Statement.{statement}
+use Rattle.frame_text.proofs.planes_text.Tie as tie
 
 slice-aggregate-bytes : tie.Need-slice-aggregate-bytes
 slice-aggregate-bytes c = search needs
@@ -34,6 +34,6 @@ returns c =
     planes-put _ _ _ _ (start .pre .1 .0 .0) (start .pre .1 .0 .1) (start .pre .1 .0 .2) (start .pre .1 .1 .0) _ (start .pre .1 .1 .1) _ _ _ _
     (c .before .before .before .before .before .before .bytes .ensures) (c .before .before .lines .ensures)
 
-pub planes-spec : {M : Type 1} → statement M
-planes-spec =
+pub planes-text-spec : {M : Type 1} → statement M
+planes-text-spec =
     tie.close (tie.spec slice-aggregate-bytes bytes-requires lines-requires same-length returns)
