@@ -13,7 +13,7 @@ use Rattle.frame.specs.Calls.{clamp-answer, clamped, after}
 use Rattle.frame_file.specs.Lists.{joined, put-at}
 use Rattle.printing.specs.Printing.{numbers-line, heading}
 use Rattle.text.specs.Put.{Put, put-then, put-as, put-length}
-use Rattle.frame_text.specs.PlanesText.{number-at, planes-line, planes-text, Clamped}
+use Rattle.frame_text.specs.PlanesText.{clamped-entry, planes-line, planes-text, Clamped-numbers}
 use Rattle.frame_text.specs.Room.{joined-longer, planes-text-fits}
 
 -- the lines of the first k sites stand from `at` on
@@ -36,7 +36,7 @@ module _ (W : ℕ) (r g b : List ℤ) (old : List ℕ) (at : ℕ)
     next-room : next + length (planes-line W r g b k) ≤ length new
     next-room = omega (arith, c .put .behind, c .size, joined-longer (length r) k (planes-line W r g b) h)
 
-    module _ (x y z : ℕ) (ex : x ≡ number-at r k) (ey : y ≡ number-at g k) (ez : z ≡ number-at b k) where
+    module _ (x y z : ℕ) (ex : x ≡ clamped-entry r k) (ey : y ≡ clamped-entry g k) (ez : z ≡ clamped-entry b k) where
       line-is : numbers-line (k / W ∷ k % W ∷ x ∷ y ∷ z ∷ []) ≡ planes-line W r g b k
       unfolding planes-line
       line-is = rw (ex, ey, ez)
@@ -58,8 +58,8 @@ module _ (W : ℕ) (r g b : List ℤ) (old : List ℕ) (at : ℕ)
   composed-all k new next c h = let e : length r ≡ k = omega (arith, c .below) in rw e (c .put)
 
 -- the heading, and the lines behind it
-module _ (W : ℕ) (r g b : List ℤ) (cr : Clamped r) (cg : Clamped g) (cb : Clamped b) (few : length r ≤ 1024) (text : List ℕ)
-    (room : 25623 ≤ length text) where
+module _ (W : ℕ) (r g b : List ℤ) (cr : Clamped-numbers r) (cg : Clamped-numbers g) (cb : Clamped-numbers b) (few : length r ≤ 1024)
+    (text : List ℕ) (room : 25623 ≤ length text) where
   fits : 23 + length (joined (length r) (planes-line W r g b)) ≤ length text
   unfolding planes-text heading
   fits = omega (arith, planes-text-fits W r g b cr cg cb few, length-append heading (joined (length r) (planes-line W r g b)))

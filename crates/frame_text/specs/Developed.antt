@@ -16,7 +16,7 @@ use Rattle.develop.specs.LentBuffers.{lengths}
 use Rattle.develop.specs.Ready.{done-ready}
 use Rattle.printing.specs.Printing.{lent, refusal-text, developed-text}
 use Rattle.frame_text.specs.Buffers.{Planes-lent}
-use Rattle.frame_text.specs.PlanesText.{planes-text, Clamped, clamped-clamped, length-clamped, frame-text-planes}
+use Rattle.frame_text.specs.PlanesText.{planes-text, Clamped-numbers, clamped-clamped, length-clamped, frame-text-planes}
 
 -- what develop was lent, answered and left, and what clamp made of it
 pub record Left (f : Frame) (red green blue work : List ℤ) (a : Answer)
@@ -66,7 +66,7 @@ module _ (shape : Shape) (mosaic : List ℕ) {red green blue work clamped-red cl
     pub blue-length : length clamped-blue1 ≡ length clamped-red1
     blue-length = ap length is-blue ∙ (length-clamped (frame shape mosaic) Colour.blue ∙ sym red-length)
 
-    pub all-clamped : Clamped clamped-red1 × Clamped clamped-green1 × Clamped clamped-blue1
+    pub all-clamped : Clamped-numbers clamped-red1 × Clamped-numbers clamped-green1 × Clamped-numbers clamped-blue1
     all-clamped = (
       rw (l .clamped-red-left) (clamped-clamped red1),
       rw (l .clamped-green-left) (clamped-clamped green1),

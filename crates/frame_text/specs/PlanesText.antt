@@ -21,12 +21,12 @@ use Rattle.frame_file.specs.Lists.{joined, joined-cong}
 use Rattle.printing.specs.Printing.{numbers-line, heading, clamped-at, site-text, frame-text}
 
 -- entry k of a clamped plane, as a natural number
-abbrev pub number-at : List ℤ → ℕ → ℕ
-number-at l k = natAbs (getD l k (pos 0))
+abbrev pub clamped-entry : List ℤ → ℕ → ℕ
+clamped-entry l k = natAbs (getD l k (pos 0))
 
 -- the line of the site at entry k of planes of W columns
 unfoldable pub planes-line : ℕ → List ℤ → List ℤ → List ℤ → ℕ → List ℕ
-planes-line W r g b k = numbers-line (k / W ∷ k % W ∷ number-at r k ∷ number-at g k ∷ number-at b k ∷ [])
+planes-line W r g b k = numbers-line (k / W ∷ k % W ∷ clamped-entry r k ∷ clamped-entry g k ∷ clamped-entry b k ∷ [])
 
 unfoldable pub planes-text : ℕ → List ℤ → List ℤ → List ℤ → List ℕ
 planes-text W r g b = heading ++ joined (length r) (planes-line W r g b)
@@ -34,19 +34,19 @@ planes-text W r g b = heading ++ joined (length r) (planes-line W r g b)
 -- ---- clamped numbers
 
 -- every number is from 0 to 1,023
-pub record Clamped (l : List ℤ) : Type 0 where
+pub record Clamped-numbers (l : List ℤ) : Type 0 where
   pub low : (k : ℕ) → T (nonNeg (getD l k (pos 0)))
-  pub high : (k : ℕ) → number-at l k ≤ 1023
+  pub high : (k : ℕ) → clamped-entry l k ≤ 1023
 
-not-negative : (v : ℤ) → ltZ v (pos 0) ≡ false → T (nonNeg v)
-not-negative (pos n) e = tt
-not-negative (negsuc n) e = absurd (let z : _≡_ {A = ℕ} 0 1 = cc in omega arith)
+not-below-zero : (v : ℤ) → ltZ v (pos 0) ≡ false → T (nonNeg v)
+not-below-zero (pos n) e = tt
+not-below-zero (negsuc n) e = absurd (let z : _≡_ {A = ℕ} 0 1 = cc in omega arith)
 
 held-low : (v : ℤ) → T (nonNeg (held v))
 unfolding held highest-sample
 held-low v = by-test (ltZ v (pos 0)) _
     (λ t. rw t tt)
-    (λ t. by-test (ltZ (pos 1023) v) _ (λ u. rw (t, u) tt) (λ u. rw (t, u) (not-negative v t)))
+    (λ t. by-test (ltZ (pos 1023) v) _ (λ u. rw (t, u) tt) (λ u. rw (t, u) (not-below-zero v t)))
 
 small : (v : ℤ) → T (nonNeg v) → ltZ (pos 1023) v ≡ false → natAbs v ≤ 1023
 small (pos n) h e = ltb-ge 1023 n e
@@ -56,13 +56,13 @@ held-high : (v : ℤ) → natAbs (held v) ≤ 1023
 unfolding held highest-sample
 held-high v = by-test (ltZ v (pos 0)) _
     (λ t. rw t (omega arith))
-    (λ t. by-test (ltZ (pos 1023) v) _ (λ u. rw (t, u) (omega arith)) (λ u. rw (t, u) (small v (not-negative v t) u)))
+    (λ t. by-test (ltZ (pos 1023) v) _ (λ u. rw (t, u) (omega arith)) (λ u. rw (t, u) (small v (not-below-zero v t) u)))
 
 getD-clamped : (l : List ℤ) (k : ℕ) → getD (clamped l) k (pos 0) ≡ held (getD l k (pos 0))
 unfolding clamped held highest-sample
 getD-clamped l k = List·getD-map held l k (pos 0)
 
-pub clamped-clamped : (l : List ℤ) → Clamped (clamped l)
+pub clamped-clamped : (l : List ℤ) → Clamped-numbers (clamped l)
 clamped-clamped l = record {
   low = λ k. rw (getD-clamped l k) (held-low (getD l k (pos 0)));
   high = λ k. rw (getD-clamped l k) (held-high (getD l k (pos 0)));

@@ -11,7 +11,7 @@ use Rattle.toolkit.specs.Tests.{by-test, ltb-lt, ltb-ge}
 use Rattle.frame_file.specs.Lists.{joined}
 use Rattle.printing.specs.Printing.{heading}
 use Rattle.text.specs.Lines.{site-line-short}
-use Rattle.frame_text.specs.PlanesText.{planes-line, planes-text, Clamped}
+use Rattle.frame_text.specs.PlanesText.{planes-line, planes-text, Clamped-numbers}
 
 -- 23 + 1,024 · 25
 abbrev pub text-room : ℕ
@@ -31,7 +31,7 @@ joined-longer (suc n) k piece h = by-test (ltb k n) _
     (λ t. omega (arith, length-append (joined n piece) (piece n), joined-longer n k piece (ltb-lt _ _ t)))
     (λ t. let e : k ≡ n = omega (arith, ltb-ge k n t) in rw e (omega (arith, length-append (joined n piece) (piece n))))
 
-pub planes-text-fits : (W : ℕ) (r g b : List ℤ) → Clamped r → Clamped g → Clamped b → length r ≤ 1024
+pub planes-text-fits : (W : ℕ) (r g b : List ℤ) → Clamped-numbers r → Clamped-numbers g → Clamped-numbers b → length r ≤ 1024
     → length (planes-text W r g b) ≤ text-room
 unfolding planes-text planes-line heading
 planes-text-fits W r g b cr cg cb few =

@@ -12,14 +12,14 @@ ghost use Rattle.frame_file.specs.Lists.{joined};
 ghost use Rattle.frame_file.specs.FrameFile.{reading};
 ghost use Rattle.printing.specs.Printing.{lent, developed-text, text-of};
 ghost use Rattle.text.specs.Put.{Put};
-ghost use Rattle.frame_text.specs.PlanesText.{number-at, planes-line, planes-text, Clamped};
+ghost use Rattle.frame_text.specs.PlanesText.{clamped-entry, planes-line, planes-text, Clamped-numbers};
 ghost use Rattle.frame_text.specs.Buffers.{Planes-lent};
 ghost use Rattle.frame_text.specs.TextLeft.{Text-left};
 
 // Entry k of a clamped plane.
-fn number_at(plane: &[i32], k: usize) -> usize
-    requires { ⌜ (Clamped (now plane)) × (k < length (now plane)) ⌝ }
-    ensures { λ r. ⌜ r ≡ number-at (now (plane .entry)) k ⌝ }
+fn clamped_entry(plane: &[i32], k: usize) -> usize
+    requires { ⌜ (Clamped-numbers (now plane)) × (k < length (now plane)) ⌝ }
+    ensures { λ r. ⌜ r ≡ clamped-entry (now (plane .entry)) k ⌝ }
 {
     plane[k] as usize
 }
@@ -34,7 +34,7 @@ fn lines(
     blue: &[i32],
 ) -> usize
     requires { ⌜ (0 < width) × (length (now green) ≡ length (now red)) × (length (now blue) ≡ length (now red)) ⌝ }
-    requires { ⌜ (Clamped (now red)) × (Clamped (now green)) × (Clamped (now blue)) ⌝ }
+    requires { ⌜ (Clamped-numbers (now red)) × (Clamped-numbers (now green)) × (Clamped-numbers (now blue)) ⌝ }
     requires { ⌜ at + length (joined (length (now red)) (planes-line width (now red) (now green) (now blue))) ≤ length (now text) ⌝ }
     ensures { λ r. ⌜ Put (now (text .entry)) at
         (joined (length (now (red .entry))) (planes-line width (now (red .entry)) (now (green .entry)) (now (blue .entry)))) (now (text .exit)) r ⌝ }
@@ -47,9 +47,9 @@ fn lines(
             next,
             k / width,
             k % width,
-            number_at(red, k),
-            number_at(green, k),
-            number_at(blue, k),
+            clamped_entry(red, k),
+            clamped_entry(green, k),
+            clamped_entry(blue, k),
         );
         k += 1;
     }
@@ -59,7 +59,7 @@ fn lines(
 // The heading and the lines.
 fn planes_text(text: &mut [u8], width: usize, red: &[i32], green: &[i32], blue: &[i32]) -> usize
     requires { ⌜ (0 < width) × (length (now green) ≡ length (now red)) × (length (now blue) ≡ length (now red)) ⌝ }
-    requires { ⌜ (Clamped (now red)) × (Clamped (now green)) × (Clamped (now blue)) ⌝ }
+    requires { ⌜ (Clamped-numbers (now red)) × (Clamped-numbers (now green)) × (Clamped-numbers (now blue)) ⌝ }
     requires { ⌜ (length (now red) ≤ 1024) × (25623 ≤ length (now text)) ⌝ }
     ensures { λ r. ⌜ Put (now (text .entry)) 0 (planes-text width (now (red .entry)) (now (green .entry)) (now (blue .entry))) (now (text .exit)) r ⌝ }
 {

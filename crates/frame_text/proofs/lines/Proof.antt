@@ -22,21 +22,22 @@ div-site-line c = omega (arith, c .before .before .before .before .pre .0 .0)
 rem-site-line : tie.Need-rem-site-line Inv-loop μ-loop
 rem-site-line c = omega (arith, c .before .before .before .before .pre .0 .0)
 
-number-at-requires : tie.Need-number-at-requires Inv-loop μ-loop
-number-at-requires c κs = (c .before .before .before .before .pre .1 .0 .0, omega arith)
+clamped-entry-requires : tie.Need-clamped-entry-requires Inv-loop μ-loop
+clamped-entry-requires c κs = (c .before .before .before .before .pre .1 .0 .0, omega arith)
 
-number-at-requires-2 : tie.Need-number-at-requires-2 Inv-loop μ-loop
-number-at-requires-2 c κs = let start = c .before .before .before .before .before in (start .pre .1 .0 .1, omega (arith, start .pre .0 .1))
+clamped-entry-requires-2 : tie.Need-clamped-entry-requires-2 Inv-loop μ-loop
+clamped-entry-requires-2 c κs = let start = c .before .before .before .before .before in (start .pre .1 .0 .1, omega (arith, start .pre .0 .1))
 
-number-at-requires-3 : tie.Need-number-at-requires-3 Inv-loop μ-loop
-number-at-requires-3 c κs = let start = c .before .before .before .before .before .before in (start .pre .1 .0 .2, omega (arith, start .pre .0 .2))
+clamped-entry-requires-3 : tie.Need-clamped-entry-requires-3 Inv-loop μ-loop
+clamped-entry-requires-3 c κs =
+    let start = c .before .before .before .before .before .before in (start .pre .1 .0 .2, omega (arith, start .pre .0 .2))
 
 site-line-requires : tie.Need-site-line-requires Inv-loop μ-loop
 site-line-requires c κs =
     let turn = c .before .before .before .before in
     let start = turn .before .before .before in
     line-room _ _ _ _ _ _ (start .pre .1 .1) _ _ _ (turn .before .loop .inv) (turn .loop-test .taken) _ _ _
-    (c .before .before .number-at .ensures) (c .before .number-at2 .ensures) (c .number-at3 .ensures)
+    (c .before .before .clamped-entry .ensures) (c .before .clamped-entry2 .ensures) (c .clamped-entry3 .ensures)
 
 add-k : tie.Need-add-k Inv-loop μ-loop
 add-k c = search needs
@@ -50,8 +51,8 @@ loop-again c =
     let turn = called .before .before .before .before .before in
     let start = turn .before .before .before in
     composed-next _ _ _ _ _ _ (start .pre .1 .1) _ _ _ (turn .before .loop .inv) (turn .loop-test .taken) _ _ _
-    (called .before .before .before .number-at .ensures) (called .before .before .number-at2 .ensures) (called .before .number-at3 .ensures) _ _
-    (called .site-line .ensures)
+    (called .before .before .before .clamped-entry .ensures) (called .before .before .clamped-entry2 .ensures)
+    (called .before .clamped-entry3 .ensures) _ _ (called .site-line .ensures)
 
 same-length : tie.Need-same-length Inv-loop μ-loop
 same-length c = c .before .loop .inv .size
@@ -68,9 +69,9 @@ lines-spec =
     loop-holds
     div-site-line
     rem-site-line
-    number-at-requires
-    number-at-requires-2
-    number-at-requires-3
+    clamped-entry-requires
+    clamped-entry-requires-2
+    clamped-entry-requires-3
     site-line-requires
     add-k
     loop-less

@@ -1,10 +1,10 @@
--- `frame_text::number_at` meets its contract. Assumes nothing.
+-- `frame_text::clamped_entry` meets its contract. Assumes nothing.
 use lib.IntN.{pos}
 use lib.ListN.{getD}
 use Rattle.frame_text.specs.PlanesText.{cast-number}
 use borrow.Author.Needs.{needs}
-use Rattle.frame_text.proofs.number_at.Statement.{statement}
-use Rattle.frame_text.proofs.number_at.Tie as tie
+use Rattle.frame_text.proofs.clamped_entry.Statement.{statement}
+use Rattle.frame_text.proofs.clamped_entry.Tie as tie
 
 mul-result : tie.Need-mul-result
 mul-result c = search needs
@@ -22,5 +22,5 @@ cast-result c =
 returns : tie.Need-returns
 returns c = search needs
 
-pub number-at-spec : {M : Type 1} → statement M
-number-at-spec = tie.close (tie.spec mul-result shared-slice-copy-out-result cast-result returns)
+pub clamped-entry-spec : {M : Type 1} → statement M
+clamped-entry-spec = tie.close (tie.spec mul-result shared-slice-copy-out-result cast-result returns)
