@@ -32,7 +32,7 @@ pub fn bytes4(number: usize) -> [u8; 4]
 }
 
 // The number in two bytes, little-endian.
-pub fn number2(bytes: &[u8], at: usize) -> usize
+pub fn number_of_two(bytes: &[u8], at: usize) -> usize
     requires { ⌜ at + 2 ≤ length (now bytes) ⌝ }
     ensures { λ r. ⌜ (r ≡ little-endian (part (now (bytes .entry)) at 2)) × (r < 65536) ⌝ }
 {
@@ -40,11 +40,11 @@ pub fn number2(bytes: &[u8], at: usize) -> usize
 }
 
 // The number in four bytes, little-endian.
-pub fn number4(bytes: &[u8], at: usize) -> usize
+fn number_of_four(bytes: &[u8], at: usize) -> usize
     requires { ⌜ at + 4 ≤ length (now bytes) ⌝ }
     ensures { λ r. ⌜ r ≡ little-endian (part (now (bytes .entry)) at 4) ⌝ }
 {
-    number2(bytes, at) + 65536 * number2(bytes, at + 2)
+    number_of_two(bytes, at) + 65536 * number_of_two(bytes, at + 2)
 }
 
 // The check: the sum of (k+1) times byte k for k = 0..507.
@@ -66,10 +66,10 @@ pub fn test_block(block: &[u8], n: usize) -> Answer
     requires { ⌜ length (now block) ≡ 512 ⌝ }
     ensures { λ r. ⌜ r ≡ block-answer (now (block .entry)) n ⌝ }
 {
-    if number4(block, 508) != check_of(block) {
+    if number_of_four(block, 508) != check_of(block) {
         return Answer::Refused(Refusal::Check(n));
     }
-    if number4(block, 0) != n {
+    if number_of_four(block, 0) != n {
         return Answer::Refused(Refusal::BlockNumber(n));
     }
     Answer::Done

@@ -30,8 +30,8 @@ fn header_of(block: &[u8]) -> Shape
     ensures { λ r. ⌜ r ≡ header (now (block .entry)) ⌝ }
 {
     Shape {
-        width: block::number2(block, 8),
-        height: block::number2(block, 10),
+        width: block::number_of_two(block, 8),
+        height: block::number_of_two(block, 10),
         phase: block[12] as usize,
     }
 }

@@ -1,11 +1,11 @@
--- `block::number2` meets its contract. Assumes nothing.
+-- `block::number_of_two` meets its contract. Assumes nothing.
 use mathlib.Core.Path.{sym, _∙_, ap₂}
 use Prim.Native.Nat.{ℕ, _+_, _*_}
 use Rattle.frame_file.specs.LittleEndian.{number-of-two}
 use native.Mathlib.Omega.{arith}
 use borrow.Author.Needs.{needs}
-use Rattle.block.proofs.number2.Statement.{statement}
-use Rattle.block.proofs.number2.Tie as tie
+use Rattle.block.proofs.number_of_two.Statement.{statement}
+use Rattle.block.proofs.number_of_two.Tie as tie
 
 byte-requires : tie.Need-byte-requires
 byte-requires c κs = search needs
@@ -30,6 +30,6 @@ returns c =
       omega arith,
     )
 
-pub number2-spec : {M : Type 1} → statement M
-number2-spec =
+pub number-of-two-spec : {M : Type 1} → statement M
+number-of-two-spec =
     tie.close (tie.spec byte-requires add-byte byte-requires-2 mul-result add-result returns)
