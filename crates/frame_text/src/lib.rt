@@ -75,7 +75,7 @@ fn clamp_plane(plane: &[i32], filled: &mut [i32])
     clamp::clamp(plane, filled);
 }
 
-// The text of a frame: developed, clamped and printed, or develop's refusal.
+// The text of a frame: developed, clamped into reds, greens and blues, and printed; or develop's refusal.
 fn developed_text(
     text: &mut [u8],
     shape: Shape,
@@ -84,13 +84,13 @@ fn developed_text(
     green: &mut [i32],
     blue: &mut [i32],
     work: &mut [i32],
-    clamped_red: &mut [i32],
-    clamped_green: &mut [i32],
-    clamped_blue: &mut [i32],
+    reds: &mut [i32],
+    greens: &mut [i32],
+    blues: &mut [i32],
 ) -> usize
     requires { ⌜ (shape .height * shape .width ≤ 1024) × (25623 ≤ length (now text)) ⌝ }
     requires { ⌜ Planes-lent (shape .height * shape .width) (now red) (now green) (now blue) (now work)
-        (now «clamped_red») (now «clamped_green») (now «clamped_blue») ⌝ }
+        (now reds) (now greens) (now blues) ⌝ }
     ensures { λ r. ⌜ Put (now (text .entry)) 0
         (developed-text (frame-of shape (now (mosaic .entry))) (develop-answer (frame-of shape (now (mosaic .entry))) (lent (frame-of shape (now (mosaic .entry))))))
         (now (text .exit)) r ⌝ }
@@ -98,10 +98,10 @@ fn developed_text(
     match develop::develop(shape, mosaic, red, green, blue, work) {
         Answer::Refused(why) => text::refusal(text, why),
         Answer::Done => {
-            clamp_plane(red, clamped_red);
-            clamp_plane(green, clamped_green);
-            clamp_plane(blue, clamped_blue);
-            planes_text(text, shape.width, clamped_red, clamped_green, clamped_blue)
+            clamp_plane(red, reds);
+            clamp_plane(green, greens);
+            clamp_plane(blue, blues);
+            planes_text(text, shape.width, reds, greens, blues)
         }
     }
 }
@@ -115,12 +115,12 @@ fn file_text(
     green: &mut [i32],
     blue: &mut [i32],
     work: &mut [i32],
-    clamped_red: &mut [i32],
-    clamped_green: &mut [i32],
-    clamped_blue: &mut [i32],
+    reds: &mut [i32],
+    greens: &mut [i32],
+    blues: &mut [i32],
 ) -> usize
     requires { ⌜ (25623 ≤ length (now text)) × (length (now samples) ≡ 1024) ⌝ }
-    requires { ⌜ Planes-lent 1024 (now red) (now green) (now blue) (now work) (now «clamped_red») (now «clamped_green») (now «clamped_blue») ⌝ }
+    requires { ⌜ Planes-lent 1024 (now red) (now green) (now blue) (now work) (now reds) (now greens) (now blues) ⌝ }
     ensures { λ r. ⌜ Put (now (text .entry)) 0 (text-of (reading (now (file .entry)) 1024)) (now (text .exit)) r ⌝ }
 {
     match reader::read(file, samples) {
@@ -136,9 +136,9 @@ fn file_text(
                 &mut green[0..count],
                 &mut blue[0..count],
                 &mut work[0..size],
-                &mut clamped_red[0..count],
-                &mut clamped_green[0..count],
-                &mut clamped_blue[0..count],
+                &mut reds[0..count],
+                &mut greens[0..count],
+                &mut blues[0..count],
             )
         }
     }
@@ -160,9 +160,9 @@ pub fn compose(file: &[u8], text: &mut [u8]) -> usize
     let mut green = [0i32; 1024];
     let mut blue = [0i32; 1024];
     let mut work = [0i32; 4096];
-    let mut clamped_red = [0i32; 1024];
-    let mut clamped_green = [0i32; 1024];
-    let mut clamped_blue = [0i32; 1024];
+    let mut reds = [0i32; 1024];
+    let mut greens = [0i32; 1024];
+    let mut blues = [0i32; 1024];
     file_text(
         file,
         text,
@@ -171,8 +171,8 @@ pub fn compose(file: &[u8], text: &mut [u8]) -> usize
         &mut green,
         &mut blue,
         &mut work,
-        &mut clamped_red,
-        &mut clamped_green,
-        &mut clamped_blue,
+        &mut reds,
+        &mut greens,
+        &mut blues,
     )
 }
