@@ -3,12 +3,12 @@ use mathlib.Core.Path.{_≡_}
 use Prim.Native.Nat.{ℕ, _*_, _≤_}
 use native.Mathlib.Nat.{mul-le-mul}
 use native.Mathlib.Omega.{arith}
-use Rattle.toolkit.specs.Tests.{holds, leb-le, eqb-eq}
+use Rattle.toolkit.specs.Tests.{holds, leb-le, eqb-eq, and-true}
 use Rattle.frame.specs.declared.Shape.{Shape}
 use Rattle.frame.specs.declared.Refusal.the-variants.{Size, Phase, MosaicLength}
 use Rattle.frame.specs.declared.Answer.the-variants.{Done}
 use Rattle.frame.specs.Sites.{side-allowed, phase-allowed}
-use Rattle.frame.specs.Admission.{and-true, tested-done, side-high}
+use Rattle.frame.specs.Admission.{tested-done, side-high}
 use Rattle.admission.specs.ShapeTest.{shape-answer}
 
 pub record Allowed (shape : Shape) (count : ℕ) : Type 0 where

@@ -7,13 +7,12 @@ use native.Mathlib.Omega.{arith}
 use lib.Dec.{eqb}
 use lib.IntN.{ℤ, pos}
 use lib.ListN.{length}
-use Rattle.toolkit.specs.Tests.{holds, leb-le, leb-yes, eqb-eq, eqb-yes}
+use Rattle.toolkit.specs.Tests.{holds, leb-le, leb-yes, eqb-eq, eqb-yes, and-true}
 use Rattle.toolkit.specs.Tables.{tabulate, length-tabulate}
 use Rattle.frame.specs.declared.Answer.{Answer}
 use Rattle.frame.specs.declared.Answer.the-variants.{Done, Refused}
 use Rattle.frame.specs.Sites.{Frame, red, green, blue}
 use Rattle.frame.specs.Calls.{returned, lengths-fit, lengths-allowed, develop-answer, after, Admitted}
-use Rattle.frame.specs.Admission.{and-true}
 use Rattle.method.specs.Planes.{plane}
 use Rattle.method.specs.Comparison.{Accepted}
 use Rattle.method.specs.Acceptance.{returned-admitted, admitted-accepted}

@@ -7,13 +7,13 @@ use Prim.Native.Nat.{ℕ, zero, suc, _+_, _*_, _<_, _≤_}
 use native.Mathlib.Omega.{arith}
 use lib.Dec.{leb, eqb}
 use lib.ListN.{length, getD}
-use Rattle.toolkit.specs.Tests.{by-test, holds, leb-le, leb-gt, leb-yes, eqb-eq, eqb-ne}
+use Rattle.toolkit.specs.Tests.{by-test, holds, leb-le, leb-gt, leb-yes, eqb-eq, eqb-ne, and-true}
 use Rattle.frame.specs.declared.Refusal.the-variants.{Sample}
 use Rattle.frame.specs.declared.Answer.{Answer}
 use Rattle.frame.specs.declared.Answer.the-variants.{Done, Refused}
 use Rattle.frame.specs.Sites.{Frame, side-allowed, phase-allowed, highest-sample}
 use Rattle.frame.specs.Calls.{Returned, success, returned, samples-answer, answer-in-order}
-use Rattle.frame.specs.Admission.{and-true, side-low, side-high}
+use Rattle.frame.specs.Admission.{side-low, side-high}
 
 abbrev pub row : ℕ → ℕ → Returned
 row number place = record { number = number; place = place }

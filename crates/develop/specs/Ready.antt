@@ -4,11 +4,11 @@ use mathlib.Core.Path.{_≡_}
 use Prim.Native.Nat.{ℕ, _*_, _≤_}
 use native.Mathlib.Omega.{arith}
 use lib.Dec.{leb, eqb}
-use Rattle.toolkit.specs.Tests.{is-true, leb-le, eqb-eq}
+use Rattle.toolkit.specs.Tests.{is-true, leb-le, eqb-eq, and-true}
 use Rattle.frame.specs.declared.Answer.the-variants.{Done}
 use Rattle.frame.specs.Sites.{Frame, highest-sample}
 use Rattle.frame.specs.Calls.{Lengths, lengths-fit, lengths-allowed, develop-answer, Admitted}
-use Rattle.frame.specs.Admission.{and-true, side-low, side-high, phase-high, sample-high, done-admitted}
+use Rattle.frame.specs.Admission.{side-low, side-high, phase-high, sample-high, done-admitted}
 use Rattle.positions.specs.Taken.{Taken}
 
 pub record Ready (f : Frame) (l : Lengths) : Type 0 where

@@ -17,7 +17,7 @@ use Rattle.method.specs.ColourLaws.{directions-path}
 use Rattle.positions.specs.Taken.{Taken}
 use Rattle.positions.specs.Rings.{place-in-ring}
 use Rattle.positions.specs.RingLaws.{ring-end}
-use Rattle.positions.specs.Near.{near-north, near-south}
+use Rattle.positions.specs.Near.{near-north, near-south, north-step, north-odd, south-odd}
 use Rattle.positions.specs.HalfRows.{chroma-start, half-count, chroma-count, chroma-row, Half}
 use Rattle.positions.specs.HalfRowLaws.{chroma-small, chroma-odd, both-counts, rest-small, rest-half}
 use Rattle.records.specs.Layout.{record-size, south-part, final-part}
@@ -26,7 +26,7 @@ use Rattle.records.specs.SiteColours.{chroma-not-traded}
 use Rattle.records.specs.Stages.{Chroma-kept, Lent, Diagonal-reads}
 use Rattle.half_rows.specs.Sources.{source-entry, north-entry}
 use Rattle.half_rows.specs.Mirror.{mirrored}
-use Rattle.half_rows.specs.Near.{north-step, north-odd, south-odd, half-around, half-of-row}
+use Rattle.half_rows.specs.Beside.{half-around, half-of-row}
 use Rattle.half_rows.specs.GradientRow.{Gradient-row, start-small, count-is, gradients-are}
 use Rattle.differences.specs.Rows.{corners-read, corner-mean-read, Values-fit}
 

@@ -19,7 +19,7 @@ use Rattle.method.specs.Sizes.{At-most, around-size, green-difference-size, mea
 use Rattle.method.specs.ColourLaws.{directions-path}
 use Rattle.positions.specs.Taken.{Taken}
 use Rattle.positions.specs.Places.{plane-row}
-use Rattle.positions.specs.Near.{near-north, near-south}
+use Rattle.positions.specs.Near.{near-north, near-south, north-step, north-even, south-even}
 use Rattle.positions.specs.Rings.{place-in-ring}
 use Rattle.positions.specs.HalfRows.{chroma-start, half-count, chroma-count, chroma-row, Half}
 use Rattle.positions.specs.HalfRowLaws.{count-high}
@@ -28,7 +28,7 @@ use Rattle.records.specs.Quantities.{greens, finals}
 use Rattle.records.specs.Stages.{Chroma-held, Plane-size, Enhance-reads}
 use Rattle.half_rows.specs.Sources.{Sized, source-entry, north-entry}
 use Rattle.half_rows.specs.Mirror.{mirrored}
-use Rattle.half_rows.specs.Near.{north-step, north-even, south-even, half-near, half-around, half-of-row, row-near-even}
+use Rattle.half_rows.specs.Beside.{half-near, half-around, half-of-row, row-near-even}
 use Rattle.half_rows.specs.GradientRow.{Gradient-row, start-small, count-is, site-inside, gradients-are}
 use Rattle.differences.specs.Rows.{straight-read, straight-mean-read, Values-fit}
 

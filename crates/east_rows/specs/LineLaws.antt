@@ -9,7 +9,7 @@ use Rattle.toolkit.specs.Entries.{Entries}
 use Rattle.toolkit.specs.Writes.{Wrote, wrote-as, wrote-then}
 use Rattle.frame.specs.Sites.{Frame}
 use Rattle.positions.specs.HalfRows.{chroma-start, half-count, chroma-count}
-use Rattle.positions.specs.HalfRowLaws.{chroma-small, count-high}
+use Rattle.positions.specs.HalfRowLaws.{chroma-small, count-high, chroma-count-is}
 use Rattle.positions.specs.Rings.{place-in-ring}
 use Rattle.positions.specs.RingLaws.{ring-end}
 use Rattle.records.specs.Layout.{record-size}
@@ -80,8 +80,7 @@ module _ (f : Frame) (i : ℕ) (at rows alongs : List ℕ) (reads : East-reads f
   small = omega (arith, chroma-small (f .phase) i)
 
   counted : n ≡ chroma-count f i
-  unfolding chroma-count
-  counted = count ∙ ap (half-count (f .width)) start
+  counted = count ∙ chroma-count-is f i c start
 
   -- E(i,j − 2) stands at entry j + 6
   west-at : (j x : ℕ) → j < f .width + 2 → x ≡ j + 6 → getD gradients x (pos 0) ≡ wests f i j

@@ -7,9 +7,9 @@ use native.Mathlib.Nat.{le-of-suc-le-suc}
 use native.Mathlib.Omega.{arith}
 use lib.ListN.{length, drop}
 use lib.Seq.{take-all}
+use Rattle.toolkit.specs.Tests.{and-true}
 use Rattle.frame.specs.Sites.{highest-sample}
 use Rattle.frame.specs.Calls.{Admitted}
-use Rattle.frame.specs.Admission.{and-true}
 use Rattle.frame_file.specs.Lists.{part, length-part, joined, joined-cong, joined-parts, all-zero, Below, below-part, below-joined}
 use Rattle.frame_file.specs.FrameFile.{stored-samples, sample-count, block, payload, block-filler, block-samples, block-count, file-length, unpacked-payload, written-block, written-file, stored-frame, filler-holds}
 use Rattle.frame_file.specs.BlockCount.{some-blocks}

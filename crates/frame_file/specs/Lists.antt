@@ -10,8 +10,7 @@ use native.Mathlib.Omega.{arith}
 use lib.Dec.{leb, eqb}
 use lib.ListN.{length, getD, take, drop, set, replicate, length-append, length-take, length-drop, length-replicate, replicate-append-replicate, drop-of-length-le, List·getD-eq-default}
 use lib.Seq.{drop-cons, length-take-le, drop-append-add, take-nil, take-add, take-all, take-take, take-at, drop-at, drop-drop, take-append-le, drop-append-le, getD-take, getD-drop, take-set-le, take-set-lt, drop-set-lt, drop-set-add}
-use Rattle.toolkit.specs.Tests.{by-test, leb-le, leb-gt, eqb-eq, eqb-yes}
-use Rattle.frame.specs.Admission.{and-true}
+use Rattle.toolkit.specs.Tests.{by-test, leb-le, leb-gt, eqb-eq, eqb-yes, and-true}
 
 -- ---- a part of a list: the n entries from position a on
 unfoldable pub part : List ℕ → ℕ → ℕ → List ℕ

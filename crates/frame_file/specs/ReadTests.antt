@@ -9,11 +9,10 @@ use native.Mathlib.Nat.{eq-or-lt-of-le, le-refl}
 use native.Mathlib.Omega.{arith}
 use lib.Dec.{leb, eqb}
 use lib.ListN.{length}
-use Rattle.toolkit.specs.Tests.{eqb-eq, eqb-yes, leb-le, leb-yes}
+use Rattle.toolkit.specs.Tests.{eqb-eq, eqb-yes, leb-le, leb-yes, and-true}
 use Rattle.frame.specs.declared.Refusal.{Refusal}
 use Rattle.frame.specs.declared.Refusal.the-variants.{BufferLength, FileLength, Check, Header, BlockNumber, Filler}
 use Rattle.frame.specs.Sites.{Frame, side-allowed, phase-allowed}
-use Rattle.frame.specs.Admission.{and-true}
 use Rattle.frame_file.specs.Lists.{all-zero}
 use Rattle.frame_file.specs.FrameFile.{sample-count, block, has-tag, header, header-filler, block-count, file-length, stored-frame, Reading, accepted, refused, tested, length-allowed, check-holds, number-holds, header-allowed, filler-holds, later-blocks, reading}
 

@@ -12,11 +12,10 @@ use Rattle.method.specs.Four.{directions, sizes, listed}
 use Rattle.method.specs.Sizes.{listed-naturals}
 use Rattle.positions.specs.Rings.{place-in-ring}
 use Rattle.positions.specs.HalfRows.{chroma-start, half-count, chroma-count}
-use Rattle.positions.specs.HalfRowLaws.{chroma-small, count-column, count-high, count-half, count-most}
+use Rattle.positions.specs.HalfRowLaws.{chroma-small, count-column, count-high, count-half, count-most, chroma-count-is}
 use Rattle.records.specs.Layout.{record-size, south-part, final-part, other-part}
 use Rattle.records.specs.Stages.{Gradients, Lent}
 use Rattle.half_rows.specs.Sources.{north-entry, four-entries, Gradients-fit}
-use Rattle.half_rows.specs.Near.{chroma-count-is}
 use Rattle.half_rows.specs.SiteGradients.{gradients-most, record-end, work-most, site-gradients-first}
 
 -- row i, its red and blue sites, and its N in a half row

@@ -2,6 +2,6 @@ pub mod Sources
 pub mod Reading
 pub mod Mirror
 pub mod Norths
-pub mod Near
+pub mod Beside
 pub mod SiteGradients
 pub mod GradientRow

@@ -20,13 +20,13 @@ use Rattle.positions.specs.Taken.{Taken}
 use Rattle.positions.specs.Rings.{place-in-ring}
 use Rattle.positions.specs.RingLaws.{ring-end}
 use Rattle.positions.specs.HalfRows.{chroma-start, half-count, chroma-count}
-use Rattle.positions.specs.HalfRowLaws.{chroma-small, count-high, count-half, rest-half}
-use Rattle.positions.specs.Near.{near-south, near-north}
+use Rattle.positions.specs.HalfRowLaws.{chroma-small, count-high, count-half, rest-half, chroma-count-is}
+use Rattle.positions.specs.Near.{near-south, near-north, north-step, north-odd, south-odd}
 use Rattle.records.specs.Layout.{record-size, final-part, other-part}
 use Rattle.records.specs.Quantities.{finals, others}
 use Rattle.records.specs.Stages.{Chroma-kept, Lent, Out-reads}
 use Rattle.records.specs.SiteColours.{row-colour}
-use Rattle.half_rows.specs.Near.{north-step, north-odd, south-odd, half-around, chroma-count-is, row-near-odd}
+use Rattle.half_rows.specs.Beside.{half-around, row-near-odd}
 use Rattle.half_rows.specs.Sources.{north-entry, four-entries}
 use Rattle.half_rows.specs.SiteGradients.{gradients-most, record-end, work-most, site-gradients-second}
 use Rattle.out_rows.specs.declared.Places.{Places}

@@ -11,11 +11,10 @@ use Rattle.frame.specs.Colours.{trade}
 use Rattle.frame.specs.declared.Shape.{Shape}
 use Rattle.positions.specs.Rings.{place-in-ring}
 use Rattle.positions.specs.HalfRows.{chroma-start, half-count, chroma-count}
-use Rattle.positions.specs.HalfRowLaws.{chroma-small}
+use Rattle.positions.specs.HalfRowLaws.{chroma-small, chroma-count-is}
 use Rattle.positions.specs.Places.{area, row-end}
 use Rattle.records.specs.Quantities.{outputs}
 use Rattle.records.specs.SiteColours.{row-colour}
-use Rattle.half_rows.specs.Near.{chroma-count-is}
 use Rattle.out_rows.specs.RowPlaces.{Row-of}
 use Rattle.out_rows.specs.Woven.{woven}
 use Rattle.out_stage.specs.OutRows.{Chroma-half, Green-half, Differences-formed, Outputs-formed, Plane-row, Out-stores}

@@ -12,13 +12,13 @@ use Rattle.method.specs.Gradients.{mosaic}
 use Rattle.method.specs.Planes.{colour-difference}
 use Rattle.positions.specs.Rings.{place-in-ring}
 use Rattle.positions.specs.HalfRows.{chroma-start, half-count, chroma-count, Half}
-use Rattle.positions.specs.HalfRowLaws.{chroma-small, count-column, both-counts}
+use Rattle.positions.specs.HalfRowLaws.{chroma-small, count-column, both-counts, chroma-count-is}
 use Rattle.records.specs.Layout.{record-size, final-part, other-part}
 use Rattle.records.specs.Quantities.{finals, others}
 use Rattle.records.specs.Stages.{Chroma-kept, Out-reads}
 use Rattle.records.specs.SiteColours.{row-colour}
 use Rattle.half_rows.specs.Mirror.{mirrored}
-use Rattle.half_rows.specs.Near.{chroma-count-is, half-of-row}
+use Rattle.half_rows.specs.Beside.{half-of-row}
 use Rattle.half_rows.specs.Sources.{north-entry}
 use Rattle.out_rows.specs.declared.Places.{Places}
 use Rattle.out_rows.specs.RowPlaces.{Placed}

@@ -5,9 +5,10 @@ use native.Mathlib.Omega.{arith}
 use lib.IntN.{subℕ}
 use Rattle.toolkit.specs.Tests.{by-test, ltb-yes, ltb-no, ltb-lt, ltb-ge}
 use lib.Dec.{ltb}
+use Rattle.frame.specs.Sites.{Frame}
 use Rattle.frame.specs.Reflection.{reflect-parity, abs-sub}
 use Rattle.positions.specs.Columns.{column-at}
-use Rattle.positions.specs.HalfRows.{chroma-start, half-count, half-column}
+use Rattle.positions.specs.HalfRows.{chroma-start, half-count, half-column, chroma-count}
 
 -- both halves together
 pub both-counts : (W c : ℕ) → c ≤ 1 → 2 ≤ W → half-count W c + half-count W (1 - c) ≡ W
@@ -78,3 +79,8 @@ rest-half W c h = omega arith
 pub count-most : (W c : ℕ) → W ≤ 4096 → half-count W c ≤ 2048
 unfolding half-count
 count-most W c h = omega arith
+
+-- the red and blue sites of a row, counted from its first column
+pub chroma-count-is : (f : Frame) (i c : ℕ) → c ≡ chroma-start (f .phase) i → half-count (f .width) c ≡ chroma-count f i
+unfolding chroma-count
+chroma-count-is f i c e = ap (half-count (f .width)) e

@@ -1,13 +1,14 @@
--- A reflected row lies no farther off than the row itself. Assumes nothing.
+-- Rows some way off: a reflected row lies no farther off than the row itself; their numbers and parities. Assumes nothing.
 use mathlib.Core.Path.{_≡_, refl, _∙_, ap}
 use Prim.Native.Nat.{ℕ, zero, suc, _+_, _*_, _-_, _%_, _<_, _≤_}
 use native.Mathlib.Nat.{div-add-mod'}
 use native.Mathlib.Omega.{arith}
 use lib.Dec.{ltb, leb}
 use lib.IntN.{pos, negℤ, natAbs, _+ℤ_, subℕ}
+use Rattle.toolkit.specs.Orders.{to-naturals}
 use Rattle.toolkit.specs.Tests.{by-test, leb-le, leb-gt, ltb-lt, ltb-ge}
 use Rattle.frame.specs.Sites.{reflect}
-use Rattle.frame.specs.Reflection.{reflect-lt, reflect-inside, reflect-mirror, abs-sub}
+use Rattle.frame.specs.Reflection.{reflect-lt, reflect-inside, reflect-mirror, reflect-parity, abs-sub}
 use Rattle.positions.specs.ColumnLaws.{fold-low, fold-high, reflect-distance, reflect-apart}
 
 reflect-le : (n x : ℕ) → 2 ≤ n → reflect n (pos x) ≤ x
@@ -47,3 +48,20 @@ near-north H i d h l = (low, omega (arith, same, reflect-le H ((i - d) + (d - i)
     low = by-test (leb d i) _
         (λ t. let q : d ≤ i = leb-le _ _ t in omega (arith, same, reflect-inside H ((i - d) + (d - i)) h (omega arith)))
         (λ t. let q : i < d = leb-gt _ _ t in omega arith)
+
+-- ---- rows some way off: their numbers and parities
+
+pub north-step : (i d : ℕ) → subℕ i d ≡ pos i +ℤ negℤ (pos d)
+north-step i d = simp to-naturals (omega arith)
+
+pub north-even : (H i t : ℕ) → 2 ≤ H → reflect H (subℕ i (2 * t)) % 2 ≡ i % 2
+north-even H i t h = reflect-parity H (subℕ i (2 * t)) h ∙ (ap (λ (n : ℕ). n % 2) (abs-sub i (2 * t)) ∙ omega arith)
+
+pub south-even : (H i t : ℕ) → 2 ≤ H → reflect H (pos (i + 2 * t)) % 2 ≡ i % 2
+south-even H i t h = reflect-parity H (pos (i + 2 * t)) h ∙ omega arith
+
+pub north-odd : (H i : ℕ) → 2 ≤ H → reflect H (subℕ i 1) % 2 ≡ (i + 1) % 2
+north-odd H i h = reflect-parity H (subℕ i 1) h ∙ (ap (λ (n : ℕ). n % 2) (abs-sub i 1) ∙ omega arith)
+
+pub south-odd : (H i : ℕ) → 2 ≤ H → reflect H (pos (i + 1)) % 2 ≡ (i + 1) % 2
+south-odd H i h = reflect-parity H (pos (i + 1)) h

@@ -8,7 +8,7 @@ use native.Mathlib.Omega.{arith}
 use lib.Dec.{leb, eqb}
 use lib.ListN.{length, take, drop, length-take}
 use borrow.Author.Tests.{ne-eqb}
-use Rattle.toolkit.specs.Tests.{holds, leb-le, leb-yes, leb-no, eqb-yes}
+use Rattle.toolkit.specs.Tests.{holds, leb-le, leb-yes, leb-no, eqb-yes, and-true}
 use Rattle.frame.specs.declared.Shape.{Shape}
 use Rattle.frame.specs.declared.Refusal.{Refusal}
 use Rattle.frame.specs.declared.Refusal.the-variants.{BufferLength, FileLength, Check, Header, BlockNumber, Filler}
@@ -18,7 +18,7 @@ use Rattle.frame.specs.declared.ReadAnswer.{ReadAnswer}
 use Rattle.frame.specs.declared.ReadAnswer.the-variants as Read
 use Rattle.frame.specs.Sites.{Frame}
 use Rattle.frame.specs.Calls.{tested}
-use Rattle.frame.specs.Admission.{and-true, refused-not-done, tested-done, side-high}
+use Rattle.frame.specs.Admission.{refused-not-done, tested-done, side-high}
 use Rattle.admission.specs.ShapeTest.{and-then}
 use Rattle.block.specs.BlockTest.{block-answer}
 use Rattle.frame_file.specs.Lists.{all-zero}

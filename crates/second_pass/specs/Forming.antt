@@ -10,12 +10,12 @@ use Rattle.frame.specs.Sites.{Frame}
 use Rattle.method.specs.Green.{Direction, horizontal, vertical, diagonal}
 use Rattle.positions.specs.Columns.{column-at}
 use Rattle.positions.specs.HalfRows.{chroma-start, half-count, chroma-count, Half}
-use Rattle.positions.specs.HalfRowLaws.{chroma-small}
+use Rattle.positions.specs.HalfRowLaws.{chroma-small, chroma-count-is}
 use Rattle.records.specs.Quantities.{trials}
 use Rattle.records.specs.Stages.{Second-reads}
 use Rattle.half_rows.specs.Sources.{source-entry}
 use Rattle.half_rows.specs.Mirror.{mirrored}
-use Rattle.half_rows.specs.Near.{chroma-count-is, half-of-row}
+use Rattle.half_rows.specs.Beside.{half-of-row}
 use Rattle.half_rows.specs.Sources.{Sized}
 use Rattle.sums.specs.Sums.{Held-near, Sums-read}
 use Rattle.sums.specs.Sizes.{sized-as, row-sized}

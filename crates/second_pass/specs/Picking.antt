@@ -16,10 +16,9 @@ use Rattle.method.specs.Green.{least-sum, second-pass, second-pass-at, green-at
 use Rattle.method.specs.Planes.{green-difference}
 use Rattle.positions.specs.ColumnLaws.{column-inside}
 use Rattle.positions.specs.HalfRows.{chroma-start, chroma-count, chroma-row, Half}
-use Rattle.positions.specs.HalfRowLaws.{chroma-small, count-column}
+use Rattle.positions.specs.HalfRowLaws.{chroma-small, count-column, chroma-count-is}
 use Rattle.records.specs.Quantities.{trials, greens}
 use Rattle.records.specs.Stages.{Chroma-stored}
-use Rattle.half_rows.specs.Near.{chroma-count-is}
 use Rattle.sums.specs.Sums.{column-sum-to, Sums, Sums-read}
 use Rattle.second_pass.specs.Picked.{picked, picked-entry}
 

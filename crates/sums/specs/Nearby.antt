@@ -6,8 +6,7 @@ use lib.IntN.{pos, subℕ}
 use Rattle.frame.specs.Sites.{Frame, reflect}
 use Rattle.positions.specs.HalfRows.{half-count, chroma-count}
 use Rattle.positions.specs.HalfRowLaws.{chroma-even}
-use Rattle.positions.specs.Near.{near-north, near-south}
-use Rattle.half_rows.specs.Near.{north-even, south-even}
+use Rattle.positions.specs.Near.{near-north, near-south, north-even, south-even}
 use Rattle.sums.specs.Sums.{Row-near}
 
 pub near-above : (H i t r : ℕ) → 2 ≤ H → i < H → t ≤ 4 → r ≡ reflect H (subℕ i (2 * t)) → Row-near H i r

@@ -9,11 +9,10 @@ use Rattle.toolkit.specs.Entries.{Entries}
 use Rattle.frame.specs.Sites.{Frame, reflect}
 use Rattle.method.specs.Green.{Direction, horizontal, vertical, diagonal}
 use Rattle.positions.specs.HalfRows.{chroma-start, chroma-count, Half}
-use Rattle.positions.specs.HalfRowLaws.{count-high, count-most}
+use Rattle.positions.specs.HalfRowLaws.{count-high, count-most, chroma-count-is}
 use Rattle.positions.specs.Places.{plane-row}
 use Rattle.records.specs.Quantities.{trials}
 use Rattle.records.specs.Stages.{Second-reads}
-use Rattle.half_rows.specs.Near.{chroma-count-is}
 use Rattle.half_rows.specs.Sources.{Sized}
 use Rattle.sums.specs.Sums.{entries-of, with-columns, Held-near, Sums-read, Sums-room}
 use Rattle.sums.specs.Nearby.{near-above, near-below}

@@ -16,10 +16,10 @@ use Rattle.positions.specs.Taken.{Taken}
 use Rattle.positions.specs.Columns.{column-at}
 use Rattle.positions.specs.ColumnLaws.{column-lt}
 use Rattle.positions.specs.HalfRows.{chroma-start, chroma-count, Half}
-use Rattle.positions.specs.HalfRowLaws.{chroma-small, count-column}
+use Rattle.positions.specs.HalfRowLaws.{chroma-small, count-column, chroma-count-is}
 use Rattle.records.specs.Quantities.{trials}
 use Rattle.half_rows.specs.Reading.{size-read}
-use Rattle.half_rows.specs.Near.{chroma-count-is, entry-of-row}
+use Rattle.half_rows.specs.Beside.{entry-of-row}
 use Rattle.half_rows.specs.Sources.{Sized}
 use Rattle.sums.specs.Sums.{with-columns, with-rows, Held-near, Row-near}
 use Rattle.sums.specs.Nearby.{counts-alike}

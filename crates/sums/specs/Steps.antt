@@ -14,7 +14,7 @@ use Rattle.method.specs.Gradients.{apart, exchanged}
 use Rattle.method.specs.Green.{sum-about}
 use Rattle.positions.specs.HalfRows.{chroma-start, chroma-count, Half}
 use Rattle.positions.specs.Taken.{Taken}
-use Rattle.half_rows.specs.Near.{half-around, row-near-even}
+use Rattle.half_rows.specs.Beside.{half-around, row-near-even}
 use Rattle.sums.specs.Sums.{column-sum-to, with-columns, with-rows, around-entry, Held-near, Row-near}
 use Rattle.sums.specs.Nearby.{near-above, near-below}
 

@@ -9,9 +9,9 @@ use Rattle.frame.specs.Sites.{Frame, frame, reflect}
 use Rattle.frame.specs.declared.Shape.{Shape}
 use Rattle.method.specs.Gradients.{exchanged}
 use Rattle.method.specs.Green.{horizontal, vertical, diagonal}
+use Rattle.positions.specs.HalfRowLaws.{chroma-count-is}
 use Rattle.positions.specs.HalfRows.{chroma-start, half-count, chroma-count}
 use Rattle.records.specs.Quantities.{trials}
-use Rattle.half_rows.specs.Near.{chroma-count-is}
 use Rattle.sums.specs.Sums.{column-sum-to, entries-of, with-columns, with-rows, with-both, around-entry, Sums, Sums-read, Widens}
 use Rattle.sums.specs.Steps.{middle, sum-none, columns-next, rows-next}
 

@@ -3,34 +3,16 @@ use mathlib.Core.Path.{_≡_, refl, sym, _∙_, ap, ap₂}
 use mathlib.Core.List.{List}
 use Prim.Native.Nat.{ℕ, _+_, _*_, _-_, _%_, _<_, _≤_}
 use native.Mathlib.Omega.{arith}
-use lib.IntN.{ℤ, pos, negℤ, _+ℤ_, subℕ}
+use lib.IntN.{ℤ, pos, _+ℤ_, subℕ}
 use lib.ListN.{getD}
-use Rattle.toolkit.specs.Orders.{to-naturals}
 use Rattle.toolkit.specs.Entries.{Entries, entries-as}
 use Rattle.frame.specs.Sites.{Frame, around, reflect}
-use Rattle.frame.specs.Reflection.{reflect-here, reflect-parity, abs-sub}
+use Rattle.frame.specs.Reflection.{reflect-here}
 use Rattle.positions.specs.Columns.{column-at}
 use Rattle.positions.specs.ColumnLaws.{column-inside}
 use Rattle.positions.specs.HalfRows.{chroma-start, half-count, chroma-count, chroma-row, Half}
-use Rattle.positions.specs.HalfRowLaws.{count-column, both-counts, chroma-small, chroma-even, chroma-odd}
+use Rattle.positions.specs.HalfRowLaws.{count-column, both-counts, chroma-small, chroma-even, chroma-odd, chroma-count-is}
 use Rattle.records.specs.Held.{Stands}
-
--- ---- rows some way off: their numbers and parities
-
-pub north-step : (i d : ℕ) → subℕ i d ≡ pos i +ℤ negℤ (pos d)
-north-step i d = simp to-naturals (omega arith)
-
-pub north-even : (H i t : ℕ) → 2 ≤ H → reflect H (subℕ i (2 * t)) % 2 ≡ i % 2
-north-even H i t h = reflect-parity H (subℕ i (2 * t)) h ∙ (ap (λ (n : ℕ). n % 2) (abs-sub i (2 * t)) ∙ omega arith)
-
-pub south-even : (H i t : ℕ) → 2 ≤ H → reflect H (pos (i + 2 * t)) % 2 ≡ i % 2
-south-even H i t h = reflect-parity H (pos (i + 2 * t)) h ∙ omega arith
-
-pub north-odd : (H i : ℕ) → 2 ≤ H → reflect H (subℕ i 1) % 2 ≡ (i + 1) % 2
-north-odd H i h = reflect-parity H (subℕ i 1) h ∙ (ap (λ (n : ℕ). n % 2) (abs-sub i 1) ∙ omega arith)
-
-pub south-odd : (H i : ℕ) → 2 ≤ H → reflect H (pos (i + 1)) % 2 ≡ (i + 1) % 2
-south-odd H i h = reflect-parity H (pos (i + 1)) h
 
 -- ---- an entry of a half row
 
@@ -49,10 +31,6 @@ half-around H W c lo hi q row r h x i j o' o a b p e =
     half-near W c lo hi (q r) row h x j o a b e ∙ ap (λ (n : ℕ). q n (reflect W (pos j +ℤ o))) p
 
 -- ---- the rows of a buffer
-
-pub chroma-count-is : (f : Frame) (i c : ℕ) → c ≡ chroma-start (f .phase) i → half-count (f .width) c ≡ chroma-count f i
-unfolding chroma-count
-chroma-count-is f i c e = ap (half-count (f .width)) e
 
 module _ (f : Frame) (place : ℕ → ℕ) (s o lo hi : ℕ) (q : ℕ → ℕ → ℤ) (src : List ℤ) (wide : 2 ≤ f .width)
     (held : Stands place s o (chroma-count f) lo hi (chroma-row f q) src) where
