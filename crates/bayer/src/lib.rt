@@ -7,6 +7,7 @@ ghost use mathlib.Core.Path.{_≡_};
 ghost use lib.ListN.{length};
 ghost use Rattle.frame.specs.Sites.{frame as frame-of, Colour};
 ghost use Rattle.frame.specs.Calls.{number-and-place, develop-answer, clamp-answer, clamped as clamped-plane, after};
+ghost use Rattle.method.specs.Green.{decision-map};
 ghost use Rattle.method.specs.Planes.{plane};
 ghost use Rattle.develop.specs.LentBuffers.{lengths, Kept-on-refusal};
 ghost use Rattle.frame_file.specs.FrameFile.{write-answer, file-after-write, read-answer, samples-after-read};
@@ -103,8 +104,8 @@ pub extern "C" fn bayer_clamp(plane: &[i32], clamped: &mut [i32]) -> Returned
     export_answer(clamp::clamp(plane, clamped))
 }
 
-// Develops a frame into three planes of W·H entries each, with a work buffer of 4·W·H entries or more, which may hold anything after
-// success.
+// Develops a frame into three planes and the decision map, of W·H entries each, with a work buffer of 4·W·H entries or more, which may
+// hold anything after success.
 #[no_mangle]
 pub extern "C" fn bayer_develop(
     shape: Shape,
@@ -112,22 +113,26 @@ pub extern "C" fn bayer_develop(
     red: &mut [i32],
     green: &mut [i32],
     blue: &mut [i32],
+    map: &mut [u8],
     work: &mut [i32],
 ) -> Returned
     ensures answer { λ r. ⌜ Exported (develop-answer (frame-of shape (now (mosaic .entry)))
-        (lengths (now (red .entry)) (now (green .entry)) (now (blue .entry)) (now (work .entry)))) r ⌝ }
+        (lengths (now (red .entry)) (now (green .entry)) (now (blue .entry)) (now (map .entry)) (now (work .entry)))) r ⌝ }
     ensures red_left { λ _. ⌜ now (red .exit) ≡ after (develop-answer (frame-of shape (now (mosaic .entry)))
-        (lengths (now (red .entry)) (now (green .entry)) (now (blue .entry)) (now (work .entry))))
+        (lengths (now (red .entry)) (now (green .entry)) (now (blue .entry)) (now (map .entry)) (now (work .entry))))
         (plane (frame-of shape (now (mosaic .entry))) Colour.red) (now (red .entry)) ⌝ }
     ensures green_left { λ _. ⌜ now (green .exit) ≡ after (develop-answer (frame-of shape (now (mosaic .entry)))
-        (lengths (now (red .entry)) (now (green .entry)) (now (blue .entry)) (now (work .entry))))
+        (lengths (now (red .entry)) (now (green .entry)) (now (blue .entry)) (now (map .entry)) (now (work .entry))))
         (plane (frame-of shape (now (mosaic .entry))) Colour.green) (now (green .entry)) ⌝ }
     ensures blue_left { λ _. ⌜ now (blue .exit) ≡ after (develop-answer (frame-of shape (now (mosaic .entry)))
-        (lengths (now (red .entry)) (now (green .entry)) (now (blue .entry)) (now (work .entry))))
+        (lengths (now (red .entry)) (now (green .entry)) (now (blue .entry)) (now (map .entry)) (now (work .entry))))
         (plane (frame-of shape (now (mosaic .entry))) Colour.blue) (now (blue .entry)) ⌝ }
+    ensures map_left { λ _. ⌜ now (map .exit) ≡ after (develop-answer (frame-of shape (now (mosaic .entry)))
+        (lengths (now (red .entry)) (now (green .entry)) (now (blue .entry)) (now (map .entry)) (now (work .entry))))
+        (decision-map (frame-of shape (now (mosaic .entry)))) (now (map .entry)) ⌝ }
     ensures work_left { λ _. ⌜ Kept-on-refusal (develop-answer (frame-of shape (now (mosaic .entry)))
-        (lengths (now (red .entry)) (now (green .entry)) (now (blue .entry)) (now (work .entry))))
+        (lengths (now (red .entry)) (now (green .entry)) (now (blue .entry)) (now (map .entry)) (now (work .entry))))
         (now (work .entry)) (now (work .exit)) ⌝ }
 {
-    export_answer(develop::develop(shape, mosaic, red, green, blue, work))
+    export_answer(develop::develop(shape, mosaic, red, green, blue, map, work))
 }

@@ -1,5 +1,5 @@
--- Whole planes of two frames: K10's, which document 01 tells, and a larger frame rich in weak sites, as the independent implementation
--- in tests/reference develops it. Computed by stages. Assumes nothing.
+-- Whole planes and decision maps of two frames: K10's, whose planes document 01 tells, and a larger frame rich in weak sites, whose
+-- planes are as the independent implementation in tests/reference develops it. Computed by stages. Assumes nothing.
 use mathlib.Core.Path.{_≡_, refl}
 use mathlib.Core.List.{List, [], _∷_, _++_}
 use Prim.Native.Nat.{ℕ}
@@ -10,11 +10,11 @@ use Rattle.toolkit.specs.Raster.{raster}
 use Rattle.toolkit.specs.Rounding.{round-half-up}
 use Rattle.frame.specs.Sites.{Frame, Colour, red, green, blue, sample, rggb, colour, reflect-once, reflect-times, reflect, around}
 use Rattle.method.specs.Gradients.{mosaic, apart, taps, six-tap, six-tap-pair, eastbound, east-gradient, west-gradient, gradients, gradients-at}
-use Rattle.method.specs.Green.{line-estimate, horizontal-estimate, half, estimate, threshold, outcome, first-pass, less-eight, reach, sum-about, column-sum, horizontal-sum, vertical-sum, diagonal-sum, least-sum, second-pass}
+use Rattle.method.specs.Green.{line-estimate, horizontal-estimate, half, estimate, threshold, outcome, first-pass, less-eight, reach, sum-about, column-sum, horizontal-sum, vertical-sum, diagonal-sum, least-sum, second-pass, decision-map}
 use Rattle.method.specs.Planes.{inner-round, one-if-zero, count-zeros, weight, weights, times, sum-of-four, weighted-sum, total, weighted-mean, straight, fusion-share, fused, corners, diagonally, corner-gradients, final-round, plane}
 use Rattle.cases.specs.Row.{numbers, naturals, Case, all-given, all-told}
 use Rattle.cases.specs.GlazeCases.{edge-frame}
-use Rattle.cases.specs.StagedPlanes.{kept, trial-stage, difference-stage, final-stage, chroma-stage, colour-stage, output-stage, kept-finals, staged-output, staged-plane, plane-staged}
+use Rattle.cases.specs.StagedPlanes.{kept, trial-stage, difference-stage, final-stage, chroma-stage, colour-stage, output-stage, kept-trials, kept-finals, decision-stage, staged-output, staged-entry, staged-plane, staged-map, plane-staged, map-staged}
 
 -- 6 by 6, GBRG. Of the 18 red and blue sites 13 are weak: the second pass takes gH at four, gV at four and gD at five, three of these
 -- for equal sums; one site is equal, one strong across, three strong down. Some numbers lie below 0 and some above 1,023.
@@ -32,12 +32,16 @@ larger-frame = record {
       ++ (0 ∷ 0 ∷ 800 ∷ 0 ∷ 1023 ∷ 0 ∷ []);
 }
 
+-- two rows of K10's map
+abbrev edge-entries : List ℕ
+edge-entries = (3 ∷ 0 ∷ 3 ∷ 0 ∷ 3 ∷ 0 ∷ 3 ∷ 0 ∷ []) ++ (0 ∷ 3 ∷ 0 ∷ 3 ∷ 0 ∷ 3 ∷ 0 ∷ 3 ∷ [])
+
 abbrev minus : ℕ → ℤ
 minus n = negℤ (pos n)
 
--- the rows, with the planes formed by `planes`
-abbrev rows-by : (Frame → Colour → List ℤ) → List Case
-rows-by planes =
+-- the rows, with the planes formed by `planes` and the maps by `maps`
+abbrev rows-by : (Frame → Colour → List ℤ) → (Frame → List ℕ) → List Case
+rows-by planes maps =
     -- "Develop on K10 gives three planes equal to the mosaic"
     record {
       given = numbers (planes edge-frame red ++ planes edge-frame green ++ planes edge-frame blue);
@@ -76,13 +80,29 @@ rows-by planes =
           ++ (pos 1 ∷ pos 0 ∷ pos 64 ∷ pos 0 ∷ pos 302 ∷ pos 1023 ∷ [])
           ++ (minus 164 ∷ pos 25 ∷ pos 257 ∷ pos 202 ∷ pos 551 ∷ pos 327 ∷ []));
     }
+    -- K10, its map: every red or blue site is strong, down
+    ∷ record {
+      given = naturals (maps edge-frame);
+      told = naturals (edge-entries ++ edge-entries ++ edge-entries ++ edge-entries);
+    }
+    -- the larger frame, its map: each code from 0 to 6
+    ∷ record {
+      given = naturals (maps larger-frame);
+      told = naturals
+          ((0 ∷ 3 ∷ 0 ∷ 6 ∷ 0 ∷ 1 ∷ [])
+          ++ (3 ∷ 0 ∷ 3 ∷ 0 ∷ 6 ∷ 0 ∷ [])
+          ++ (0 ∷ 5 ∷ 0 ∷ 6 ∷ 0 ∷ 5 ∷ [])
+          ++ (5 ∷ 0 ∷ 4 ∷ 0 ∷ 6 ∷ 0 ∷ [])
+          ++ (0 ∷ 6 ∷ 0 ∷ 4 ∷ 0 ∷ 5 ∷ [])
+          ++ (4 ∷ 0 ∷ 4 ∷ 0 ∷ 2 ∷ 0 ∷ []));
+    }
     ∷ []
 
 unfoldable pub frame-cases : List Case
-frame-cases = rows-by plane
+frame-cases = rows-by plane decision-map
 
-staged-rows : all-given (rows-by staged-plane) ≡ all-told (rows-by staged-plane)
-unfolding kept trial-stage difference-stage final-stage chroma-stage colour-stage output-stage kept-finals staged-output staged-plane tabulate raster round-half-up sample rggb colour reflect-once reflect-times reflect around mosaic apart taps six-tap six-tap-pair eastbound east-gradient west-gradient gradients gradients-at line-estimate horizontal-estimate half estimate threshold outcome first-pass less-eight reach sum-about column-sum horizontal-sum vertical-sum diagonal-sum least-sum second-pass inner-round one-if-zero count-zeros weight weights times sum-of-four weighted-sum total weighted-mean straight fusion-share fused corners diagonally corner-gradients final-round
+staged-rows : all-given (rows-by staged-plane staged-map) ≡ all-told (rows-by staged-plane staged-map)
+unfolding kept trial-stage difference-stage final-stage chroma-stage colour-stage output-stage kept-trials kept-finals decision-stage staged-output staged-entry staged-plane staged-map tabulate raster round-half-up sample rggb colour reflect-once reflect-times reflect around mosaic apart taps six-tap six-tap-pair eastbound east-gradient west-gradient gradients gradients-at line-estimate horizontal-estimate half estimate threshold outcome first-pass less-eight reach sum-about column-sum horizontal-sum vertical-sum diagonal-sum least-sum second-pass inner-round one-if-zero count-zeros weight weights times sum-of-four weighted-sum total weighted-mean straight fusion-share fused corners diagonally corner-gradients final-round
 staged-rows = refl
 
 pub frame-cases-hold : all-given frame-cases ≡ all-told frame-cases
@@ -95,6 +115,8 @@ frame-cases-hold =
       larger red,
       larger green,
       larger blue,
+      map-staged edge-frame (omega arith) (omega arith),
+      map-staged larger-frame (omega arith) (omega arith),
     )
     staged-rows
   where

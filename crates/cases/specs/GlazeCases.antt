@@ -10,7 +10,7 @@ use Rattle.toolkit.specs.Rounding.{round-half-up}
 use Rattle.frame.specs.Sites.{Frame, sample, highest-sample, red, green, blue, rggb, colour, reflect-once, reflect-times, reflect, around}
 use Rattle.frame.specs.Calls.{held, clamped}
 use Rattle.method.specs.Gradients.{FourDirections, mosaic, apart, taps, six-tap, six-tap-pair, eastbound, east-gradient, west-gradient, gradients, gradients-at}
-use Rattle.method.specs.Green.{horizontal, diagonal, line-estimate, horizontal-estimate, half, estimate, threshold, strong-down, weak, outcome, first-pass, outcome-at, first-pass-or, green-or, less-eight, trial-difference, reach, sum-about, column-sum, horizontal-sum, vertical-sum, diagonal-sum, least-sum, second-pass, second-pass-at, green-at}
+use Rattle.method.specs.Green.{horizontal, diagonal, line-estimate, horizontal-estimate, half, estimate, threshold, strong-down, weak, outcome, first-pass, outcome-at, first-pass-or, green-or, less-eight, trial-difference, reach, sum-about, column-sum, horizontal-sum, vertical-sum, diagonal-sum, least-sum, second-pass, second-pass-at, chroma-decision-at, green-at}
 use Rattle.method.specs.Planes.{inner-round, one-if-zero, count-zeros, weight, weights, times, sum-of-four, weighted-sum, total, weighted-mean, green-difference, straight, mean-two-off, fusion-share, fused, final-difference, corners, diagonally, corner-gradients, chroma-site-difference, colour-difference, green-quarters, quarters, final-round, output, plane}
 use Rattle.frame_file.specs.Lists.{zeros, joined}
 use Rattle.frame_file.specs.FrameFile as File
@@ -89,5 +89,5 @@ glaze-cases =
     ∷ []
 
 pub glaze-cases-hold : all-given glaze-cases ≡ all-told glaze-cases
-unfolding glaze-cases digits decimal numbers-line heading clamped-at site-text frame-text clamped held highest-sample joined tabulate raster round-half-up sample rggb colour reflect-once reflect-times reflect around mosaic apart taps six-tap six-tap-pair eastbound east-gradient west-gradient gradients gradients-at line-estimate horizontal-estimate half estimate threshold outcome first-pass outcome-at green-or less-eight trial-difference reach sum-about column-sum horizontal-sum vertical-sum diagonal-sum least-sum second-pass second-pass-at green-at inner-round one-if-zero count-zeros weight weights times sum-of-four weighted-sum total weighted-mean green-difference straight mean-two-off fusion-share fused final-difference corners diagonally corner-gradients chroma-site-difference colour-difference green-quarters quarters final-round output plane zeros File.packed File.check File.position-weighted-sum File.little-endian-bytes
+unfolding glaze-cases digits decimal numbers-line heading clamped-at site-text frame-text clamped held highest-sample joined tabulate raster round-half-up sample rggb colour reflect-once reflect-times reflect around mosaic apart taps six-tap six-tap-pair eastbound east-gradient west-gradient gradients gradients-at line-estimate horizontal-estimate half estimate threshold outcome first-pass outcome-at green-or less-eight trial-difference reach sum-about column-sum horizontal-sum vertical-sum diagonal-sum least-sum second-pass second-pass-at chroma-decision-at green-at inner-round one-if-zero count-zeros weight weights times sum-of-four weighted-sum total weighted-mean green-difference straight mean-two-off fusion-share fused final-difference corners diagonally corner-gradients chroma-site-difference colour-difference green-quarters quarters final-round output plane zeros File.packed File.check File.position-weighted-sum File.little-endian-bytes
 glaze-cases-hold = refl

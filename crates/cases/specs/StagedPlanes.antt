@@ -1,5 +1,6 @@
--- The planes computed in stages: what a stage gives at each site is kept in a table, which the next stage reads. So the planes of a
--- frame are computed with each quantity formed one time for each site; `plane-staged` says that they are the planes. Assumes nothing.
+-- The planes and the decision map computed in stages: what a stage gives at each site is kept in a table, which the next stage reads. So
+-- they are computed with each quantity formed one time for each site; `plane-staged` and `map-staged` say that they are the planes and
+-- the map. Assumes nothing.
 use mathlib.Core.Path.{_≡_, refl, sym, _∙_, ap₂, fun-ext}
 use mathlib.Core.Bool.{cond}
 use mathlib.Core.List.{List, _∷_}
@@ -12,7 +13,8 @@ use Rattle.toolkit.specs.Tables.{tabulate}
 use Rattle.toolkit.specs.Raster.{raster, getD-raster}
 use Rattle.frame.specs.Sites.{Frame, Colour, green}
 use Rattle.method.specs.Gradients.{Mosaic, mosaic, around-in, samples-around, FourDirections, gradients-at}
-use Rattle.method.specs.Green.{Direction, horizontal, vertical, diagonal, estimate, first-pass, outcome-at, first-pass-or, green-or, less-eight, trial-difference, second-pass, second-pass-at, green-at}
+use Rattle.method.specs.Green.{Direction, horizontal, vertical, diagonal, estimate, first-pass, outcome-at, first-pass-or, green-or, less-eight, trial-difference, second-pass, second-pass-at, decided, decision-code, chroma-decision-at, decision-of, decision-at, decision-entry, decision-map}
+use Rattle.method.specs.GreenLaws.{green-is-decided}
 use Rattle.method.specs.Planes.{weighted-mean, green-difference, straight, mean-two-off, fused, final-difference, same, corners, corner-gradients, chroma-site-difference, colour-difference, green-quarters, quarters, final-round, output, plane}
 use Rattle.method.specs.Comparison.{trading}
 use Rattle.method.specs.MosaicChanges.{Matches, Sides, around-changed}
@@ -40,6 +42,11 @@ module _ (m : Mosaic) where
   unfoldable pub difference-stage : (Direction → ℕ → ℕ → ℤ) → ℕ → ℕ → ℤ
   difference-stage r i j = r (second-pass (λ k. around-in m (r k) i j)) i j
 
+  -- the decision's code, from the gradients and r_H, r_V and r_D
+  unfoldable pub decision-stage : (ℕ → ℕ → FourDirections ℕ) → (Direction → ℕ → ℕ → ℤ) → ℕ → ℕ → ℕ
+  decision-stage G r i j =
+      decision-code (decision-of (m .colour-at i j) (decided (first-pass (G i j)) (second-pass (λ k. around-in m (r k) i j))))
+
   -- the final difference, from D and the gradients
   unfoldable pub final-stage : (ℕ → ℕ → ℤ) → (ℕ → ℕ → FourDirections ℕ) → ℕ → ℕ → ℤ
   final-stage D G i j = fused (D i j) (weighted-mean (straight 2 (around-in m D i j)) (G i j))
@@ -61,13 +68,19 @@ module _ (m : Mosaic) where
       cond (same (m .colour-at i j) c) (m .sample-at i j)
       (final-round (cond (same c green) green-in-quarters (green-in-quarters -ℤ B i j)))
 
-  -- the final differences, kept, from the gradients
-  unfoldable pub kept-finals : (ℕ → ℕ → FourDirections ℕ) → ℕ → ℕ → ℤ
-  kept-finals G =
+  -- r_H, r_V and r_D, kept, from the gradients
+  unfoldable pub kept-trials : (ℕ → ℕ → FourDirections ℕ) → Direction → ℕ → ℕ → ℤ
+  kept-trials G =
       let r-H = kept m (pos 0) (trial-stage G horizontal) in
       let r-V = kept m (pos 0) (trial-stage G vertical) in
       let r-D = kept m (pos 0) (trial-stage G diagonal) in
-      let D = kept m (pos 0) (difference-stage (by-direction r-H r-V r-D)) in
+      by-direction r-H r-V r-D
+
+  -- the final differences, kept, from the gradients
+  unfoldable pub kept-finals : (ℕ → ℕ → FourDirections ℕ) → ℕ → ℕ → ℤ
+  kept-finals G =
+      let r = kept-trials G in
+      let D = kept m (pos 0) (difference-stage r) in
       kept m (pos 0) (final-stage D G)
 
   unfoldable pub staged-output : Colour → ℕ → ℕ → ℤ
@@ -77,8 +90,17 @@ module _ (m : Mosaic) where
       let C = kept m (pos 0) (chroma-stage c F G) in
       output-stage c F (colour-stage C G)
 
+  unfoldable pub staged-entry : ℕ → ℕ → ℕ
+  staged-entry =
+      let G = kept m no-gradients (gradients-at m) in
+      let r = kept-trials G in
+      decision-stage G r
+
 unfoldable pub staged-plane : Frame → Colour → List ℤ
 staged-plane f c = raster (f .height) (f .width) (staged-output (mosaic f) c)
+
+unfoldable pub staged-map : Frame → List ℕ
+staged-map f = raster (f .height) (f .width) (staged-entry (mosaic f))
 
 -- ---- the stages give the quantities
 
@@ -111,9 +133,9 @@ module _ (m : Mosaic) (s : Sides trading m m) where
 
   difference-same : (r : Direction → ℕ → ℕ → ℤ) → ((k : Direction) → Matches trading m (trial-difference m k) (r k))
       → Matches trading m (green-difference m) (difference-stage m r)
-  unfolding green-difference green-at second-pass-at trial-difference difference-stage
+  unfolding green-difference second-pass-at trial-difference difference-stage
   difference-same r e i j hi hj =
-      rw (fun-ext λ k. around-same (trial-difference m k) (r k) (e k) i j hi hj) (e _ i j hi hj)
+      rw (green-is-decided m i j, fun-ext λ k. around-same (trial-difference m k) (r k) (e k) i j hi hj) (e _ i j hi hj)
 
   output-same : (c : Colour) (F B : ℕ → ℕ → ℤ) → Matches trading m (final-difference m) F → Matches trading m (colour-difference m c) B
       → Matches trading m (output m c) (output-stage m c F B)
@@ -121,10 +143,8 @@ module _ (m : Mosaic) (s : Sides trading m m) where
   output-same c F B e b i j hi hj = rw (e i j hi hj, b i j hi hj)
 
   module _ (G : ℕ → ℕ → FourDirections ℕ) (g : Matches trading m (gradients-at m) G) where
-    trials-same : (k : Direction)
-        → Matches trading m (trial-difference m k)
-        (by-direction (kept m (pos 0) (trial-stage m G horizontal)) (kept m (pos 0) (trial-stage m G vertical))
-        (kept m (pos 0) (trial-stage m G diagonal)) k)
+    trials-same : (k : Direction) → Matches trading m (trial-difference m k) (kept-trials m G k)
+    unfolding kept-trials
     trials-same horizontal = kept-same _ _ _ (trial-same G g horizontal)
     trials-same vertical = kept-same _ _ _ (trial-same G g vertical)
     trials-same diagonal = kept-same _ _ _ (trial-same G g diagonal)
@@ -133,18 +153,27 @@ module _ (m : Mosaic) (s : Sides trading m m) where
     unfolding kept-finals
     finals-same = kept-same _ _ _ (final-same G g _ (kept-same _ _ _ (difference-same _ trials-same)))
 
+    entries-same : (r : Direction → ℕ → ℕ → ℤ) → ((k : Direction) → Matches trading m (trial-difference m k) (r k))
+        → Matches trading m (decision-entry m) (decision-stage m G r)
+    unfolding decision-entry decision-at chroma-decision-at outcome-at second-pass-at decision-stage
+    entries-same r e i j hi hj = rw (g i j hi hj, fun-ext λ k. around-same (trial-difference m k) (r k) (e k) i j hi hj)
+
     outputs-same : (c : Colour) (F : ℕ → ℕ → ℤ) → Matches trading m (final-difference m) F
         → Matches trading m (output m c) (output-stage m c F (colour-stage m (kept m (pos 0) (chroma-stage m c F G)) G))
     outputs-same c F e = output-same c F _ e (colour-same G g c _ (kept-same _ _ _ (chroma-same G g c F e)))
 
+  gradients-same : Matches trading m (gradients-at m) (kept m no-gradients (gradients-at m))
+  gradients-same = kept-same _ _ _ (λ i j hi hj. refl)
+
   staged-same : (c : Colour) → Matches trading m (output m c) (staged-output m c)
   unfolding staged-output
   staged-same c = outputs-same _ gradients-same c _ (finals-same _ gradients-same)
-    where
-      gradients-same : Matches trading m (gradients-at m) (kept m no-gradients (gradients-at m))
-      gradients-same = kept-same _ _ _ (λ i j hi hj. refl)
 
--- ---- the planes
+  staged-entry-same : Matches trading m (decision-entry m) (staged-entry m)
+  unfolding staged-entry
+  staged-entry-same = entries-same _ gradients-same _ (trials-same _ gradients-same)
+
+-- ---- the planes and the map
 
 tabulate-same : {X : Type 0} (n : ℕ) (f g : ℕ → X) → ((k : ℕ) → k < n → f k ≡ g k) → tabulate n f ≡ tabulate n g
 unfolding tabulate
@@ -157,12 +186,21 @@ raster-same : {X : Type 0} (H W : ℕ) (q q′ : ℕ → ℕ → X) → 0 < W �
 unfolding raster
 raster-same H W q q′ w e = tabulate-same (H * W) _ _ (λ k h. e (k / W) (k % W) (div-lt-iff-lt-mul w .1 h) (mod-lt k w))
 
--- the planes of a frame, by stages
-pub plane-staged : (f : Frame) → 2 ≤ f .height → 2 ≤ f .width → (c : Colour) → plane f c ≡ staged-plane f c
-unfolding plane staged-plane mosaic
-plane-staged f h w c =
-    raster-same (f .height) (f .width) (output (mosaic f) c) (staged-output (mosaic f) c) (omega arith)
-    (λ i j hi hj. sym (staged-same (mosaic f) sides c i j hi hj))
-  where
-    sides : Sides trading (mosaic f) (mosaic f)
-    sides = record { height-is = refl; width-is = refl; height-low = h; width-low = w }
+module _ (f : Frame) (h : 2 ≤ f .height) (w : 2 ≤ f .width) where
+  sides : Sides trading (mosaic f) (mosaic f)
+  unfolding mosaic
+  sides = record { height-is = refl; width-is = refl; height-low = h; width-low = w }
+
+  -- the planes of a frame, by stages
+  pub plane-staged : (c : Colour) → plane f c ≡ staged-plane f c
+  unfolding plane staged-plane mosaic
+  plane-staged c =
+      raster-same (f .height) (f .width) (output (mosaic f) c) (staged-output (mosaic f) c) (omega arith)
+      (λ i j hi hj. sym (staged-same (mosaic f) sides c i j hi hj))
+
+  -- and its map
+  pub map-staged : decision-map f ≡ staged-map f
+  unfolding decision-map staged-map mosaic
+  map-staged =
+      raster-same (f .height) (f .width) (decision-entry (mosaic f)) (staged-entry (mosaic f)) (omega arith)
+      (λ i j hi hj. sym (staged-entry-same (mosaic f) sides i j hi hj))

@@ -1,4 +1,4 @@
--- The case table: document 01's glaze cases and the planes of two frames, as one fact. Assumes nothing.
+-- The case table: document 01's glaze cases, the planes and the decision maps of two frames, as one fact. Assumes nothing.
 use mathlib.Core.Path.{_≡_, refl, sym, _∙_, ap, ap₂}
 use mathlib.Core.List.{List, [], _++_, map-append}
 use Prim.Native.Nat.{ℕ}
@@ -18,7 +18,7 @@ all-cases =
     ∙ sym (map-append (λ (c : Case). c .told) glaze-cases frame-cases))
 
 -- no row is missing
-pub cases-counted : length cases ≡ 17
+pub cases-counted : length cases ≡ 19
 unfolding cases glaze-cases frame-cases
 cases-counted = refl
 

@@ -13,6 +13,7 @@ use Rattle.frame.specs.declared.Answer.{Answer}
 use Rattle.frame.specs.declared.Answer.the-variants.{Done, Refused}
 use Rattle.frame.specs.Sites.{Frame, red, green, blue}
 use Rattle.frame.specs.Calls.{returned, lengths-fit, lengths-allowed, develop-answer, after, Admitted}
+use Rattle.method.specs.Green.{decision-map}
 use Rattle.method.specs.Planes.{plane}
 use Rattle.method.specs.Comparison.{Accepted}
 use Rattle.method.specs.Acceptance.{returned-admitted, admitted-accepted}
@@ -27,17 +28,19 @@ lengths-yes f before e =
     let red = and-true (eqb (length (before .red-plane)) (f .height * f .width)) _ e in
     let green = and-true (eqb (length (before .green-plane)) (f .height * f .width)) _ (red .1) in
     let blue = and-true (eqb (length (before .blue-plane)) (f .height * f .width)) _ (green .1) in
+    let map = and-true (eqb (length (before .map)) (f .height * f .width)) _ (blue .1) in
     record {
       red-length = eqb-eq _ _ (red .0);
       green-length = eqb-eq _ _ (green .0);
       blue-length = eqb-eq _ _ (blue .0);
-      work-length = leb-le _ _ (blue .1);
+      map-length = eqb-eq _ _ (map .0);
+      work-length = leb-le _ _ (map .1);
     }
 
 pub yes-lengths : (f : Frame) (before : Buffers) → Lengths-allowed f before → lengths-allowed f (lengths-of before) ≡ true
 unfolding lengths-allowed lengths-fit
 yes-lengths f before a =
-    rw (eqb-yes (a .red-length), eqb-yes (a .green-length), eqb-yes (a .blue-length), leb-yes (a .work-length))
+    rw (eqb-yes (a .red-length), eqb-yes (a .green-length), eqb-yes (a .blue-length), eqb-yes (a .map-length), leb-yes (a .work-length))
 
 -- ---- one call
 
@@ -50,12 +53,13 @@ called : (f : Frame) (before : Buffers)
     → DevelopLeaves f before (develop-answer f (lengths-of before))
     (let answer : Answer = develop-answer f (lengths-of before) in
     buffers (after answer (plane f red) (before .red-plane)) (after answer (plane f green) (before .green-plane))
-    (after answer (plane f blue) (before .blue-plane)) (before .work))
+    (after answer (plane f blue) (before .blue-plane)) (after answer (decision-map f) (before .map)) (before .work))
 called f before = record {
   answered = refl;
   red-left = refl;
   green-left = refl;
   blue-left = refl;
+  map-left = refl;
   work-left = kept (develop-answer f (lengths-of before)) (before .work);
 }
 
@@ -64,7 +68,7 @@ least : Frame → Buffers
 least f =
     let n : ℕ = f .height * f .width in
     let zeros : List ℤ = tabulate n (λ k. pos 0) in
-    buffers zeros zeros zeros (tabulate (4 * n) (λ k. pos 0))
+    buffers zeros zeros zeros (tabulate n (λ k. 0)) (tabulate (4 * n) (λ k. pos 0))
 
 least-allowed : (f : Frame) → Lengths-allowed f (least f)
 unfolding least
@@ -72,6 +76,7 @@ least-allowed f = record {
   red-length = length-tabulate _ _;
   green-length = length-tabulate _ _;
   blue-length = length-tabulate _ _;
+  map-length = length-tabulate _ _;
   work-length = omega (arith, length-tabulate (4 * (f .height * f .width)) (λ k. pos 0));
 }
 

@@ -39,14 +39,21 @@ pub write-leaves : (κs : Lfts 2) (a : ArgsD write.signature κs) (r : ResD writ
     → write-contract.Learnt κs a r s ↔ WriteLeaves (frame (a .0) (now (a .1 .0))) (now (a .1 .1 .0)) r (now (s .1 .1 .0))
 write-leaves κs a r s = (λ p. record { answered = p .0; file-left = p .1 }, λ q. (q .answered, q .file-left))
 
--- develop(shape, mosaic, red, green, blue, work)
-pub develop-leaves : (κs : Lfts 5) (a : ArgsD develop.signature κs) (r : ResD develop.signature κs)
-    (s : AtExit (endedOf 5 develop-kinds.ps develop-kinds.r) κs)
+-- develop(shape, mosaic, red, green, blue, map, work)
+pub develop-leaves : (κs : Lfts 6) (a : ArgsD develop.signature κs) (r : ResD develop.signature κs)
+    (s : AtExit (endedOf 6 develop-kinds.ps develop-kinds.r) κs)
     → develop-contract.Learnt κs a r s ↔ DevelopLeaves (frame (a .0) (now (a .1 .0)))
-    (buffers (now (a .1 .1 .0)) (now (a .1 .1 .1 .0)) (now (a .1 .1 .1 .1 .0)) (now (a .1 .1 .1 .1 .1 .0)))
+    (buffers (now (a .1 .1 .0)) (now (a .1 .1 .1 .0)) (now (a .1 .1 .1 .1 .0)) (now (a .1 .1 .1 .1 .1 .0)) (now (a .1 .1 .1 .1 .1 .1 .0)))
     r
-    (buffers (now (s .1 .1 .0)) (now (s .1 .1 .1 .0)) (now (s .1 .1 .1 .1 .0)) (now (s .1 .1 .1 .1 .1 .0)))
+    (buffers (now (s .1 .1 .0)) (now (s .1 .1 .1 .0)) (now (s .1 .1 .1 .1 .0)) (now (s .1 .1 .1 .1 .1 .0)) (now (s .1 .1 .1 .1 .1 .1 .0)))
 develop-leaves κs a r s = (
-  λ p. record { answered = p .0; red-left = p .1 .0; green-left = p .1 .1 .0; blue-left = p .1 .1 .1 .0; work-left = p .1 .1 .1 .1 },
-  λ q. (q .answered, (q .red-left, (q .green-left, (q .blue-left, q .work-left)))),
+  λ p. record {
+    answered = p .0;
+    red-left = p .1 .0;
+    green-left = p .1 .1 .0;
+    blue-left = p .1 .1 .1 .0;
+    map-left = p .1 .1 .1 .1 .0;
+    work-left = p .1 .1 .1 .1 .1;
+  },
+  λ q. (q .answered, (q .red-left, (q .green-left, (q .blue-left, (q .map-left, q .work-left))))),
 )

@@ -1,7 +1,7 @@
 -- Document 00, demand 1, for each call: what is returned is a row of document 01's table with its condition (`Rows`, `ReadRows`), and
 -- whatever is returned other than 0, 0 leaves every lent buffer as it was. That no call traps, runs without end or touches anything outside
 -- what it is lent is proved of every function by the language; what is lent to be read alone cannot change. Assumes nothing.
-use mathlib.Core.Path.{_≡_, refl, sym, _∙_, ap, ap₂}
+use mathlib.Core.Path.{_≡_, refl, sym, _∙_, ap}
 use mathlib.Core.Bool.{true≢false}
 use mathlib.Core.List.{List}
 use Prim.Native.Nat.{ℕ}
@@ -34,18 +34,12 @@ module _ (f : Frame) (before : Buffers) where
       → Row-of-frame f (Lengths-allowed f before) (returned answer)
   develop-row answer left call = rw (call .answered) answer-row
 
-  same-buffers : (left : Buffers) → left .red-plane ≡ before .red-plane → left .green-plane ≡ before .green-plane
-      → left .blue-plane ≡ before .blue-plane → left .work ≡ before .work → left ≡ before
-  same-buffers left r g b w =
-      ap₂ (λ (x y : List ℤ). buffers x y (left .blue-plane) (left .work)) r g
-      ∙ ap₂ (λ (x y : List ℤ). buffers (before .red-plane) (before .green-plane) x y) b w
-
-  -- and a refusal leaves the three planes and the work buffer as they were
+  -- and a refusal leaves the three planes, the map and the work buffer as they were
   pub develop-refusal : (answer : Answer) (left : Buffers) → DevelopLeaves f before answer left → ¬ (returned answer ≡ success)
       → left ≡ before
   develop-refusal Done left call no-success = absurd (no-success refl)
   develop-refusal (Refused why) left call no-success =
-      same-buffers left (call .red-left) (call .green-left) (call .blue-left) (call .work-left)
+      λ t. buffers (call .red-left t) (call .green-left t) (call .blue-left t) (call .map-left t) (call .work-left t)
 
 -- ---- clamp
 

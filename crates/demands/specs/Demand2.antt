@@ -14,6 +14,7 @@ use Rattle.frame.specs.Sites.{Frame, Colour, red, green, blue}
 use Rattle.frame.specs.Calls.{success, returned, returned-by-read}
 use Rattle.frame.specs.Admission.{refused-not-done, returned-done}
 use Rattle.method.specs.Gradients.{mosaic}
+use Rattle.method.specs.Green.{decision-entry, decision-map}
 use Rattle.method.specs.Planes.{output, plane}
 use Rattle.frame_file.specs.Lists.{Below}
 use Rattle.frame_file.specs.FrameFile.{sample-count, shape-of, write-answer, Reading, accepted, refused, answer-of, reading, read-answer}
@@ -42,6 +43,21 @@ module _ (f : Frame) (before : Buffers) where
   numbers-left answer left call e c =
       rw (planes-left answer left call e c)
       (length-raster (f .height) (f .width) (output (mosaic f) c), λ i j. getD-raster (f .height) (f .width) (output (mosaic f) c) i j (pos 0))
+
+  -- document 02, A1: beside the planes it leaves the method's decisions
+  pub decisions-left : (answer : Answer) (left : Buffers) → DevelopLeaves f before answer left → returned answer ≡ success
+      → left .map ≡ decision-map f
+  decisions-left Done left call e = call .map-left
+  decisions-left (Refused why) left call e = refused-not-done why (returned-done (Refused why) e)
+
+  -- W·H entries, of which i·W + j is the code of the method's decision at (i,j)
+  pub entries-left : (answer : Answer) (left : Buffers) → DevelopLeaves f before answer left → returned answer ≡ success
+      → (length (left .map) ≡ f .height * f .width) ×
+      ((i j : ℕ) → i < f .height → j < f .width → getD (left .map) (i * f .width + j) 0 ≡ decision-entry (mosaic f) i j)
+  unfolding decision-map
+  entries-left answer left call e =
+      rw (decisions-left answer left call e)
+      (length-raster (f .height) (f .width) _, λ i j. getD-raster (f .height) (f .width) (decision-entry (mosaic f)) i j 0)
 
 -- ---- "Given room for the samples, a frame file is accepted exactly when the writer makes it from some frame, and reading yields that
 -- frame."

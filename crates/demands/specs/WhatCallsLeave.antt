@@ -9,35 +9,39 @@ use Rattle.frame.specs.declared.Answer.{Answer}
 use Rattle.frame.specs.declared.ReadAnswer.{ReadAnswer}
 use Rattle.frame.specs.Sites.{Frame, Colour, red, green, blue}
 use Rattle.frame.specs.Calls.{Lengths, success, returned, develop-answer, clamp-answer, clamped, after}
+use Rattle.method.specs.Green.{decision-map}
 use Rattle.method.specs.Planes.{plane}
 use Rattle.frame_file.specs.FrameFile.{read-answer, samples-after-read, write-answer, file-after-write}
 use Rattle.develop.specs.LentBuffers.{lengths, Kept-on-refusal}
 
 -- ---- develop
 
--- the planes and the work buffer, before a call of develop or after it
+-- the planes, the map and the work buffer, before a call of develop or after it
 pub record Buffers : Type 0 where
   pub red-plane : List ℤ
   pub green-plane : List ℤ
   pub blue-plane : List ℤ
+  pub map : List ℕ
   pub work : List ℤ
 
-abbrev pub buffers : List ℤ → List ℤ → List ℤ → List ℤ → Buffers
-buffers r g b w = record { red-plane = r; green-plane = g; blue-plane = b; work = w }
+abbrev pub buffers : List ℤ → List ℤ → List ℤ → List ℕ → List ℤ → Buffers
+buffers r g b m w = record { red-plane = r; green-plane = g; blue-plane = b; map = m; work = w }
 
 abbrev pub lengths-of : Buffers → Lengths
-lengths-of b = lengths (b .red-plane) (b .green-plane) (b .blue-plane) (b .work)
+lengths-of b = lengths (b .red-plane) (b .green-plane) (b .blue-plane) (b .map) (b .work)
 
 abbrev pub plane-of : Buffers → Colour → List ℤ
 plane-of b red = b .red-plane
 plane-of b green = b .green-plane
 plane-of b blue = b .blue-plane
 
--- "Develop lends a mosaic and three 32-bit signed planes of exactly W·H entries, and a work buffer of 4·W·H or more"
+-- "Develop lends a mosaic and three 32-bit signed planes of exactly W·H entries, and a work buffer of 4·W·H or more"; document 02, A1,
+-- "one more map of W·H bytes"
 pub record Lengths-allowed (f : Frame) (before : Buffers) : Type 0 where
   pub red-length : length (before .red-plane) ≡ f .height * f .width
   pub green-length : length (before .green-plane) ≡ f .height * f .width
   pub blue-length : length (before .blue-plane) ≡ f .height * f .width
+  pub map-length : length (before .map) ≡ f .height * f .width
   pub work-length : 4 * (f .height * f .width) ≤ length (before .work)
 
 -- develop, lent the frame f, answers and leaves the buffers so
@@ -46,6 +50,7 @@ pub record DevelopLeaves (f : Frame) (before : Buffers) (answer : Answer) (left 
   pub red-left : left .red-plane ≡ after answer (plane f red) (before .red-plane)
   pub green-left : left .green-plane ≡ after answer (plane f green) (before .green-plane)
   pub blue-left : left .blue-plane ≡ after answer (plane f blue) (before .blue-plane)
+  pub map-left : left .map ≡ after answer (decision-map f) (before .map)
   pub work-left : Kept-on-refusal answer (before .work) (left .work)
 
 -- "It is accepted when develop, lent buffers of the allowed lengths, returns 0, 0 for it."
@@ -64,6 +69,10 @@ pub record Developed (f : Frame) : Type 0 where
 -- "The three numbers at (i,j) are entry i·W + j of the planes that this call fills, whatever the buffers held before."
 abbrev pub number-left : {f : Frame} → Developed f → Colour → ℕ → ℕ → ℤ
 number-left {f} call c i j = getD (plane-of (call .left) c) (i * f .width + j) (pos 0)
+
+-- document 02, A1: the entry at (i,j) is that of the map, likewise
+abbrev pub entry-left : {f : Frame} → Developed f → ℕ → ℕ → ℕ
+entry-left {f} call i j = getD (call .left .map) (i * f .width + j) 0
 
 -- ---- clamp
 

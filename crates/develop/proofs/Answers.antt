@@ -17,7 +17,7 @@ use Rattle.admission.specs.ShapeTest.{shape-answer, and-then}
 use Rattle.admission.specs.InOrder.{in-order}
 use Rattle.admission.specs.Allowed.{shape-passes}
 
--- ---- the four lengths
+-- ---- the five lengths
 
 module _ (n : ℕ) (l : Lengths) where
   pub red-differs : ¬ (l .red ≡ n) → false ≡ lengths-fit n l
@@ -35,13 +35,18 @@ module _ (n : ℕ) (l : Lengths) where
       blue-differs h = rw (eqb-yes red, eqb-yes green, ne-eqb (l .blue) n h)
 
       module _ (blue : l .blue ≡ n) where
-        pub work-short : l .work < 4 * n → false ≡ lengths-fit n l
+        pub map-differs : ¬ (l .map ≡ n) → false ≡ lengths-fit n l
         unfolding lengths-fit
-        work-short h = rw (eqb-yes red, eqb-yes green, eqb-yes blue, leb-no {m = 4 * n} {n = l .work} h)
+        map-differs h = rw (eqb-yes red, eqb-yes green, eqb-yes blue, ne-eqb (l .map) n h)
 
-        pub all-fit : 4 * n ≤ l .work → true ≡ lengths-fit n l
-        unfolding lengths-fit
-        all-fit h = rw (eqb-yes red, eqb-yes green, eqb-yes blue, leb-yes {m = 4 * n} {n = l .work} h)
+        module _ (map : l .map ≡ n) where
+          pub work-short : l .work < 4 * n → false ≡ lengths-fit n l
+          unfolding lengths-fit
+          work-short h = rw (eqb-yes red, eqb-yes green, eqb-yes blue, eqb-yes map, leb-no {m = 4 * n} {n = l .work} h)
+
+          pub all-fit : 4 * n ≤ l .work → true ≡ lengths-fit n l
+          unfolding lengths-fit
+          all-fit h = rw (eqb-yes red, eqb-yes green, eqb-yes blue, eqb-yes map, leb-yes {m = 4 * n} {n = l .work} h)
 
 -- ---- numbers 1 to 3, then 4, then 5
 

@@ -16,6 +16,7 @@ pub record Ready (f : Frame) (l : Lengths) : Type 0 where
   pub red-size : l .red ≡ f .height * f .width
   pub green-size : l .green ≡ f .height * f .width
   pub blue-size : l .blue ≡ f .height * f .width
+  pub map-size : l .map ≡ f .height * f .width
   pub work-size : f .height * (4 * f .width) ≤ l .work
 
 pub admitted-taken : (f : Frame) → Admitted f → Taken f
@@ -37,12 +38,14 @@ done-ready f l e =
     let done = done-admitted f (lengths-allowed f l) e in
     let red = and-true (eqb (l .red) n) _ (is-true _ (done .0)) in
     let green = and-true (eqb (l .green) n) _ (red .1) in
-    let blue = and-true (eqb (l .blue) n) (leb (4 * n) (l .work)) (green .1) in
-    let work : 4 * (f .height * f .width) ≤ l .work = leb-le _ _ (blue .1) in
+    let blue = and-true (eqb (l .blue) n) _ (green .1) in
+    let map = and-true (eqb (l .map) n) (leb (4 * n) (l .work)) (blue .1) in
+    let work : 4 * (f .height * f .width) ≤ l .work = leb-le _ _ (map .1) in
     record {
       taken = admitted-taken f (done .1);
       red-size = eqb-eq _ _ (red .0);
       green-size = eqb-eq _ _ (green .0);
       blue-size = eqb-eq _ _ (blue .0);
+      map-size = eqb-eq _ _ (map .0);
       work-size = omega arith;
     }

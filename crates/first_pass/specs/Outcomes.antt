@@ -84,9 +84,9 @@ times-fits k m z e l = rw e (record { sfits = omega arith })
 pub times-read : (k m : ℕ) (z : ℤ) → z ≡ pos m → k * m ≤ 2000000 → toZ w32 (ofZ w32 (pos k *ℤ z)) ≡ pos (k * m)
 times-read k m z e l = wrap-is w32 (times-fits k m z e l) (rw e refl)
 
--- ---- what `settle` and `trial_row` form
+-- ---- what `settle` and `try_site` form
 
--- half of a sum of two i32 elements that were read
+-- half of a sum of two i32
 pub sum-fits : (x y : ℤ) → natAbs x ≤ 8184 → natAbs y ≤ 8184 → SFits w32 (toZ w32 (ofZ w32 x) +ℤ toZ w32 (ofZ w32 y))
 sum-fits x y hx hy = fits (search vals depth 30) tt
 

@@ -13,6 +13,7 @@ use Rattle.frame.specs.Sites.{Around}
 use Rattle.method.specs.Gradients.{FourDirections}
 use Rattle.method.specs.Four.{directions, sizes}
 use Rattle.method.specs.Green.{Direction, horizontal, vertical, diagonal, Outcome, estimate, half, first-pass, first-pass-or, less-eight}
+use Rattle.records.specs.Quantities.{first-code}
 use Rattle.half_rows.specs.Sources.{four-entries, Gradients-fit}
 use Rattle.first_pass.specs.declared.FirstPass.{FirstPass}
 use Rattle.first_pass.specs.declared.FirstPass.the-variants.{Equal, Across, Down, Weak}
@@ -33,6 +34,10 @@ abbrev pub site-trial : Direction → List ℤ → ℕ → ℕ → List ℤ → 
 site-trial d work east south n a b k =
     tried d (sizes (directions (four-entries work east south n k))) (getD a (k + 4) (pos 0)) (getD b (k + 4) (pos 0))
 
+-- the code of the outcome there, from its gradients
+abbrev pub site-code : List ℤ → ℕ → ℕ → List ℤ → ℕ → ℕ
+site-code work east south n k = first-code (first-pass (sizes (directions (four-entries work east south n k))))
+
 -- what a row of trials reads
 pub record Trial-reads (east south count : ℕ) (work n a b : List ℤ) : Type 0 where
   pub gradients : Gradients-fit count east south work n
@@ -40,7 +45,7 @@ pub record Trial-reads (east south count : ℕ) (work n a b : List ℤ) : Type 0
   pub down-small : (k : ℕ) → k < count → natAbs (getD b (k + 4) (pos 0)) ≤ 8184
 
 -- the code's choice
-settled-is : (k : Direction) (o : FirstPass) (g : FourDirections ℕ) (a b : ℤ) → outcome-of o ≡ first-pass g
+pub settled-is : (k : Direction) (o : FirstPass) (g : FourDirections ℕ) (a b : ℤ) → outcome-of o ≡ first-pass g
     → settled o a b (own k a b) ≡ tried k g a b
 unfolding tried
 settled-is k o g a b e = go k o ∙ ap (λ (x : Outcome). own (first-pass-or x k) a b) e
@@ -50,20 +55,6 @@ settled-is k o g a b e = go k o ∙ ap (λ (x : Outcome). own (first-pass-or x k
     go k Across = refl
     go k Down = refl
     go k Weak = refl
-
--- one turn of the loop, for one direction
-pub trial-step : (d : Direction) (work n a b : List ℤ) (east south k : ℕ) (o : FirstPass) (g : List ℤ) (x y w r : ℤ)
-    → g ≡ four-entries work east south n k → outcome-of o ≡ first-pass (sizes (directions g)) → x ≡ getD a (k + 4) (pos 0)
-    → y ≡ getD b (k + 4) (pos 0) → r ≡ settled o x y w → w ≡ own d (getD a (k + 4) (pos 0)) (getD b (k + 4) (pos 0))
-    → r ≡ site-trial d work east south n a b k
-trial-step d work n a b east south k o g x y w r eg eo ex ey er ew =
-    er
-    ∙ (same ex ey ew
-    ∙ settled-is d o (sizes (directions (four-entries work east south n k))) _ _
-    (eo ∙ ap (λ (l : List ℤ). first-pass (sizes (directions l))) eg))
-  where
-    same : {x' y' w' : ℤ} → x ≡ x' → y ≡ y' → w ≡ w' → settled o x y w ≡ settled o x' y' w'
-    same p q r = rw (p, q, r)
 
 -- half of a sum, less 8·X
 half-low : (g v X q : ℤ) → (q *ℤ pos 2) ≤ℤ (g +ℤ v) → ((q -ℤ pos 8 *ℤ X) *ℤ pos 2) ≤ℤ ((g -ℤ pos 8 *ℤ X) +ℤ (v -ℤ pos 8 *ℤ X))

@@ -8,9 +8,10 @@ ghost use Rattle.toolkit.specs.Writes.{Wrote};
 ghost use Rattle.method.specs.Four.{directions, sizes};
 ghost use Rattle.method.specs.Sizes.{Naturals};
 ghost use Rattle.method.specs.Green.{vertical, diagonal, first-pass};
+ghost use Rattle.records.specs.Quantities.{first-code};
 ghost use Rattle.first_pass.specs.Lines.{line-difference, across-difference, down-difference, Small-rows};
 ghost use Rattle.first_pass.specs.Outcomes.{outcome-of, settled};
-ghost use Rattle.first_pass.specs.Trials.{site-trial, Trial-reads};
+ghost use Rattle.first_pass.specs.Trials.{tried, site-trial, site-code, Trial-reads};
 
 // What the first pass answers of a site.
 pub enum FirstPass {
@@ -115,7 +116,46 @@ fn settle(o: FirstPass, a: i32, b: i32, own: i32) -> i32
     }
 }
 
-// r_D and r_V of a row of sites, stored from entry at on.
+// The code of an outcome; that of a weak site is the code of one resolved across, until the second pass resolves it.
+fn code_of(o: FirstPass) -> u8
+    ensures { λ r. ⌜ r ≡ first-code (outcome-of o) ⌝ }
+{
+    let strong = match o {
+        FirstPass::Across => 2,
+        _ => 3,
+    };
+    let found = match o {
+        FirstPass::Equal => 1,
+        _ => strong,
+    };
+    match o {
+        FirstPass::Weak => 4,
+        _ => found,
+    }
+}
+
+// What the first pass leaves of a site: r_D, r_V, and the code of how its green was found.
+pub struct Trial {
+    pub diagonal: i32,
+    pub vertical: i32,
+    pub code: u8,
+}
+
+// All three by one decision, from the four gradients and the differences across and down.
+fn try_site(g: [i64; 4], a: i32, b: i32) -> Trial
+    requires { ⌜ (Naturals 40920 g) × (natAbs a ≤ 8184) × (natAbs b ≤ 8184) ⌝ }
+    ensures { λ r. ⌜ (r .diagonal ≡ tried diagonal (sizes (directions g)) a b) × (r .vertical ≡ tried vertical (sizes (directions g)) a b)
+        × (r .code ≡ first-code (first-pass (sizes (directions g)))) ⌝ }
+{
+    let o = decide(g);
+    Trial {
+        diagonal: settle(o, a, b, (a + b) >> 1),
+        vertical: settle(o, a, b, b),
+        code: code_of(o),
+    }
+}
+
+// r_D, r_V and the codes of a row of sites, stored from entry at on.
 pub fn trial_row(
     work: &[i32],
     east: usize,
@@ -126,25 +166,29 @@ pub fn trial_row(
     at: usize,
     diagonals: &mut [i32],
     verticals: &mut [i32],
+    map: &mut [u8],
     count: usize,
 )
     requires { ⌜ Trial-reads east south count (now work) (now n) (now a) (now b) ⌝ }
     requires { ⌜ (at + count ≤ length (now diagonals)) × (length (now diagonals) ≤ 16777216)
-        × (length (now verticals) ≡ length (now diagonals)) ⌝ }
+        × (length (now verticals) ≡ length (now diagonals)) × (length (now map) ≡ length (now diagonals)) ⌝ }
     ensures { λ _. ⌜ Wrote (pos 0) at count
         (site-trial diagonal (now (work .entry)) east south (now (n .entry)) (now (a .entry)) (now (b .entry)))
         (now (diagonals .entry)) (now (diagonals .exit)) ⌝ }
     ensures { λ _. ⌜ Wrote (pos 0) at count
         (site-trial vertical (now (work .entry)) east south (now (n .entry)) (now (a .entry)) (now (b .entry)))
         (now (verticals .entry)) (now (verticals .exit)) ⌝ }
+    ensures { λ _. ⌜ Wrote 0 at count (site-code (now (work .entry)) east south (now (n .entry))) (now (map .entry)) (now (map .exit)) ⌝ }
 {
     let mut k = 0;
     while k < count {
-        let o = decide(half_rows::four(work, east, south, n, k));
-        let x = a[k + 4];
-        let y = b[k + 4];
-        diagonals[at + k] = settle(o, x, y, (x + y) >> 1);
-        verticals[at + k] = settle(o, x, y, y);
+        let g = half_rows::four(work, east, south, n, k);
+        let trial = try_site(g, a[k + 4], b[k + 4]);
+        let d = trial.diagonal;
+        let v = trial.vertical;
+        diagonals[at + k] = d;
+        verticals[at + k] = v;
+        map[at + k] = trial.code;
         k += 1;
     }
 }

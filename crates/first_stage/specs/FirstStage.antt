@@ -11,7 +11,7 @@ use Rattle.method.specs.Green.{Direction, vertical, diagonal}
 use Rattle.positions.specs.HalfRows.{chroma-start}
 use Rattle.positions.specs.Rings.{place-in-ring}
 use Rattle.records.specs.Quantities.{trials}
-use Rattle.records.specs.Stages.{Gradients, Lent, First-reads, Tops-stored, Gradients-stored, Chroma-stored}
+use Rattle.records.specs.Stages.{Gradients, Lent, First-reads, Tops-stored, Gradients-stored, Chroma-stored, Codes-stored}
 use Rattle.mosaic_rows.specs.LoadedRows.{Row-stored, Seven}
 use Rattle.mosaic_rows.specs.RingRows.{Mosaic-lent}
 use Rattle.east_rows.specs.RowSums.{along-at, Summed}
@@ -42,16 +42,18 @@ pub record First-lent (f : Frame) (i base : ℕ) (rows alongs : List ℕ) (tops 
   pub sums : Sums-kept f (i - 4) (min (i + 5) (f .height)) rows alongs
 
 -- what it stores
-pub record First-stored (f : Frame) (i : ℕ) (tops tops' work work' diagonals diagonals' verticals verticals' : List ℤ) : Type 0 where
+pub record First-stored (f : Frame) (i : ℕ) (tops tops' work work' diagonals diagonals' verticals verticals' : List ℤ)
+    (map map' : List ℕ) : Type 0 where
   pub tops-stored : Tops-stored f i tops tops'
   pub gradients-stored : Gradients-stored f i work work'
   pub diagonals-stored : Chroma-stored f (trials f diagonal) i diagonals diagonals'
   pub verticals-stored : Chroma-stored f (trials f vertical) i verticals verticals'
+  pub codes-stored : Codes-stored f i map map'
 
 pub record First-stores (shape : Shape) (i base : ℕ) (rows alongs : List ℕ)
-    (tops tops' work work' diagonals diagonals' verticals verticals' : List ℤ) : Type 0 where
+    (tops tops' work work' diagonals diagonals' verticals verticals' : List ℤ) (map map' : List ℕ) : Type 0 where
   pub row : (zs : List ℕ) → First-lent (frame shape zs) i base rows alongs tops work
-      → First-stored (frame shape zs) i tops tops' work work' diagonals diagonals' verticals verticals'
+      → First-stored (frame shape zs) i tops tops' work work' diagonals diagonals' verticals verticals' map map'
 
 -- N of a top row, whatever the frame
 pub record Tops-formed (shape : Shape) (i base : ℕ) (rows : List ℕ) (old new : List ℤ) : Type 0 where
@@ -72,3 +74,7 @@ pub record Trials-read (f : Frame) (i base c : ℕ) (at rows : List ℕ) (tops w
 pub record Trials-stored (shape : Shape) (i base c : ℕ) (d : Direction) (at rows : List ℕ) (tops work old new : List ℤ) : Type 0 where
   pub row : (zs : List ℕ) → Trials-read (frame shape zs) i base c at rows tops work
       → Chroma-stored (frame shape zs) (trials (frame shape zs) d) i old new
+
+-- the codes, whatever the frame
+pub record Codes-formed (shape : Shape) (i base c : ℕ) (at rows : List ℕ) (tops work : List ℤ) (map map' : List ℕ) : Type 0 where
+  pub row : (zs : List ℕ) → Trials-read (frame shape zs) i base c at rows tops work → Codes-stored (frame shape zs) i map map'

@@ -8,19 +8,19 @@ use lib.ListN.{getD}
 use Rattle.toolkit.specs.Entries.{Entries}
 use Rattle.toolkit.specs.Writes.{Wrote, wrote-as}
 use Rattle.frame.specs.Sites.{Frame}
-use Rattle.method.specs.Gradients.{mosaic, gradients-at}
+use Rattle.method.specs.Gradients.{FourDirections, mosaic, gradients-at}
 use Rattle.method.specs.Four.{directions, sizes}
-use Rattle.method.specs.Green.{Direction}
+use Rattle.method.specs.Green.{Direction, first-pass, outcome-at}
 use Rattle.positions.specs.Rings.{place-in-ring}
 use Rattle.positions.specs.HalfRows.{half-count, chroma-row}
 use Rattle.positions.specs.HalfRowLaws.{chroma-small}
 use Rattle.records.specs.Layout.{record-size, south-part}
-use Rattle.records.specs.Quantities.{trials}
-use Rattle.records.specs.Stages.{Chroma-stored}
+use Rattle.records.specs.Quantities.{trials, first-code, first-codes}
+use Rattle.records.specs.Stages.{Chroma-stored, Codes-stored}
 use Rattle.half_rows.specs.Sources.{north-entry}
-use Rattle.half_rows.specs.GradientRow.{Gradient-row, count-is, site-inside, four-are, gradients-fit}
+use Rattle.half_rows.specs.GradientRow.{Gradient-row, count-is, site-inside, four-are, gradients-are, gradients-fit}
 use Rattle.first_pass.specs.Lines.{across-difference, down-difference, Small-rows, across-reads, down-reads, line-size}
-use Rattle.first_pass.specs.Trials.{tried, site-trial, Trial-reads}
+use Rattle.first_pass.specs.Trials.{tried, site-trial, site-code, Trial-reads}
 use Rattle.first_pass.specs.FrameTrials.{loaded-small, across-of, down-of, trial-is}
 use Rattle.first_stage.specs.FirstStage.{Trials-read}
 
@@ -83,6 +83,12 @@ module _ (f : Frame) (i base c count east south : ℕ) (at rows : List ℕ) (top
             → tried d (gradients-at (mosaic f) i (c + 2 * k)) x y ≡ tried d (gradients-at (mosaic f) i (c + 2 * k)) u v
         same p q = rw (p, q)
 
+    code-at : site-code work east south n k ≡ chroma-row f (first-codes f) i k
+    unfolding chroma-row first-codes outcome-at
+    code-at =
+        ap (λ (g : FourDirections ℕ). first-code (first-pass g)) (gradients-are gradient-row east south ee es k inside)
+        ∙ ap (λ (x : ℕ). first-codes f i (x + 2 * k)) (r .start)
+
   pub trial-reads : Trial-reads east south count work n a b
   trial-reads = record {
     gradients = gradients-fit gradient-row east south ee es;
@@ -93,3 +99,6 @@ module _ (f : Frame) (i base c count east south : ℕ) (at rows : List ℕ) (top
   pub trials-stored : (d : Direction) {old new : List ℤ} → Wrote (pos 0) (i * f .width) count (site-trial d work east south n a b) old new
       → Chroma-stored f (trials f d) i old new
   trials-stored d w = wrote-as w (count-is gradient-row) (λ k h. trial-at k h d)
+
+  pub codes-stored : {old new : List ℕ} → Wrote 0 (i * f .width) count (site-code work east south n) old new → Codes-stored f i old new
+  codes-stored w = wrote-as w (count-is gradient-row) code-at

@@ -1,4 +1,4 @@
-// The first two stages of the sweep: load, a row of the mosaic and its a; first, E, S, r_D and r_V of a row from the loaded rows.
+// The first two stages of the sweep: load, a row of the mosaic and its a; first, E, S, r_D, r_V and the codes of a row from the loaded rows.
 use east_rows::east_line;
 use first_pass::line_row;
 use first_pass::trial_row;
@@ -18,7 +18,7 @@ ghost use Rattle.positions.specs.HalfRows.{chroma-start};
 ghost use Rattle.records.specs.Layout.{record-size, top-size};
 ghost use Rattle.mosaic_rows.specs.RingRows.{Mosaic-lent};
 ghost use Rattle.east_rows.specs.EastRows.{East-reads};
-ghost use Rattle.first_stage.specs.FirstStage.{Line-loaded, First-room, First-lent, First-stores, Tops-formed, Gradients-formed, Trials-read, Trials-stored};
+ghost use Rattle.first_stage.specs.FirstStage.{Line-loaded, First-room, First-lent, First-stores, Tops-formed, Gradients-formed, Trials-read, Trials-stored, Codes-formed};
 
 // Row i of the mosaic and its a, to their places in the ring.
 pub fn load_line(
@@ -94,7 +94,7 @@ fn gradient_line(
     );
 }
 
-// r_D and r_V of row i to the planes, from the loaded rows and the gradients.
+// r_D and r_V of row i to the planes and its codes to the map, from the loaded rows and the gradients.
 fn trial_line(
     rows: &[u16; 98688],
     at: [usize; 7],
@@ -109,14 +109,18 @@ fn trial_line(
     work: &[i32],
     diagonals: &mut [i32],
     verticals: &mut [i32],
+    map: &mut [u8],
 )
     requires { ⌜ Some-samples (λ (zs : List ℕ). Trials-read (frame shape zs) i base c at (now rows) (now tops) (now work)) ⌝ }
     requires { ⌜ (length (now n) ≡ 2064) × (length (now a) ≡ 2064) × (length (now b) ≡ 2064) ⌝ }
-    requires { ⌜ (length (now diagonals) ≡ shape .height * shape .width) × (length (now verticals) ≡ shape .height * shape .width) ⌝ }
+    requires { ⌜ (length (now diagonals) ≡ shape .height * shape .width) × (length (now verticals) ≡ shape .height * shape .width)
+        × (length (now map) ≡ shape .height * shape .width) ⌝ }
     ensures { λ _. ⌜ Trials-stored shape i base c diagonal at (now (rows .entry)) (now (tops .entry)) (now (work .entry))
         (now (diagonals .entry)) (now (diagonals .exit)) ⌝ }
     ensures { λ _. ⌜ Trials-stored shape i base c vertical at (now (rows .entry)) (now (tops .entry)) (now (work .entry))
         (now (verticals .entry)) (now (verticals .exit)) ⌝ }
+    ensures { λ _. ⌜ Codes-formed shape i base c at (now (rows .entry)) (now (tops .entry)) (now (work .entry)) (now (map .entry))
+        (now (map .exit)) ⌝ }
     ensures { λ _. ⌜ (length (now (n .exit)) ≡ 2064) × (length (now (a .exit)) ≡ 2064) × (length (now (b .exit)) ≡ 2064) ⌝ }
 {
     let w = shape.width;
@@ -126,10 +130,22 @@ fn trial_line(
     let to = i * w;
     line_row(rows, at, c, a, b, count);
     north(tops, work, w, i, base, 0, count, n);
-    trial_row(work, east, south, n, a, b, to, diagonals, verticals, count);
+    trial_row(
+        work,
+        east,
+        south,
+        n,
+        a,
+        b,
+        to,
+        diagonals,
+        verticals,
+        map,
+        count,
+    );
 }
 
-// E, S, r_D and r_V of row i, and N of a top row.
+// E, S, r_D, r_V and the codes of row i, and N of a top row.
 pub fn first_line(
     rows: &[u16; 98688],
     alongs: &[u16; 98688],
@@ -145,12 +161,15 @@ pub fn first_line(
     work: &mut [i32],
     diagonals: &mut [i32],
     verticals: &mut [i32],
+    map: &mut [u8],
 )
     requires { ⌜ Some-samples (λ (zs : List ℕ). First-lent (frame shape zs) i base (now rows) (now alongs) (now tops) (now work)) ⌝ }
-    requires { ⌜ (length (now diagonals) ≡ shape .height * shape .width) × (length (now verticals) ≡ shape .height * shape .width) ⌝ }
+    requires { ⌜ (length (now diagonals) ≡ shape .height * shape .width) × (length (now verticals) ≡ shape .height * shape .width)
+        × (length (now map) ≡ shape .height * shape .width) ⌝ }
     requires { ⌜ First-room (now v) (now gradients) (now n) (now a) (now b) ⌝ }
     ensures { λ _. ⌜ First-stores shape i base (now (rows .entry)) (now (alongs .entry)) (now (tops .entry)) (now (tops .exit))
-        (now (work .entry)) (now (work .exit)) (now (diagonals .entry)) (now (diagonals .exit)) (now (verticals .entry)) (now (verticals .exit)) ⌝ }
+        (now (work .entry)) (now (work .exit)) (now (diagonals .entry)) (now (diagonals .exit)) (now (verticals .entry)) (now (verticals .exit))
+        (now (map .entry)) (now (map .exit)) ⌝ }
     ensures { λ _. ⌜ First-room (now (v .exit)) (now (gradients .exit)) (now (n .exit)) (now (a .exit)) (now (b .exit)) ⌝ }
 {
     let c = positions::first_chroma(shape.phase, i);
@@ -171,5 +190,6 @@ pub fn first_line(
         &work[..],
         diagonals,
         verticals,
+        map,
     );
 }

@@ -19,9 +19,9 @@ use Rattle.frame_text.specs.Buffers.{Planes-lent}
 use Rattle.frame_text.specs.PlanesText.{planes-text, Clamped-numbers, clamped-clamped, length-clamped, frame-text-planes}
 
 -- what develop was lent, answered and left, and what clamp made of it
-pub record Left (f : Frame) (red green blue work : List ℤ) (a : Answer)
+pub record Left (f : Frame) (red green blue : List ℤ) (map : List ℕ) (work : List ℤ) (a : Answer)
     (red1 green1 blue1 clamped-red clamped-green clamped-blue : List ℤ) : Type 0 where
-  pub answered : a ≡ develop-answer f (lengths red green blue work)
+  pub answered : a ≡ develop-answer f (lengths red green blue map work)
   pub done : a ≡ Done
   pub red-left : red1 ≡ after a (plane f Colour.red) red
   pub green-left : green1 ≡ after a (plane f Colour.green) green
@@ -33,18 +33,18 @@ pub record Left (f : Frame) (red green blue work : List ℤ) (a : Answer)
 after-done : (a : Answer) (filled before left : List ℤ) → a ≡ Done → left ≡ after a filled before → left ≡ filled
 after-done a filled before left d e = e ∙ rw d
 
-module _ (shape : Shape) (mosaic : List ℕ) {red green blue work clamped-red clamped-green clamped-blue : List ℤ}
-    (p : Planes-lent (shape .height * shape .width) red green blue work clamped-red clamped-green clamped-blue) where
-  answer-lent : develop-answer (frame shape mosaic) (lengths red green blue work)
+module _ (shape : Shape) (mosaic : List ℕ) {red green blue : List ℤ} {map : List ℕ} {work clamped-red clamped-green clamped-blue : List ℤ}
+    (p : Planes-lent (shape .height * shape .width) red green blue map work clamped-red clamped-green clamped-blue) where
+  answer-lent : develop-answer (frame shape mosaic) (lengths red green blue map work)
       ≡ develop-answer (frame shape mosaic) (lent (frame shape mosaic))
-  answer-lent = rw (p .red-size, p .green-size, p .blue-size, p .work-size)
+  answer-lent = rw (p .red-size, p .green-size, p .blue-size, p .map-size, p .work-size)
 
-  pub refused-text : (a : Answer) (why : Refusal) → a ≡ develop-answer (frame shape mosaic) (lengths red green blue work) → a ≡ Refused why
+  pub refused-text : (a : Answer) (why : Refusal) → a ≡ develop-answer (frame shape mosaic) (lengths red green blue map work) → a ≡ Refused why
       → refusal-text why ≡ developed-text (frame shape mosaic) (develop-answer (frame shape mosaic) (lent (frame shape mosaic)))
   refused-text a why e r = rw (← answer-lent, ← e, r)
 
   module _ {a : Answer} {red1 green1 blue1 clamped-red1 clamped-green1 clamped-blue1 : List ℤ}
-      (l : Left (frame shape mosaic) red green blue work a red1 green1 blue1 clamped-red1 clamped-green1 clamped-blue1) where
+      (l : Left (frame shape mosaic) red green blue map work a red1 green1 blue1 clamped-red1 clamped-green1 clamped-blue1) where
     is-red : clamped-red1 ≡ clamped (plane (frame shape mosaic) Colour.red)
     is-red = l .clamped-red-left ∙ ap clamped (after-done a _ _ _ (l .done) (l .red-left))
 

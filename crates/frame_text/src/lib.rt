@@ -83,19 +83,20 @@ fn developed_text(
     red: &mut [i32],
     green: &mut [i32],
     blue: &mut [i32],
+    map: &mut [u8],
     work: &mut [i32],
     reds: &mut [i32],
     greens: &mut [i32],
     blues: &mut [i32],
 ) -> usize
     requires { ⌜ (shape .height * shape .width ≤ 1024) × (25623 ≤ length (now text)) ⌝ }
-    requires { ⌜ Planes-lent (shape .height * shape .width) (now red) (now green) (now blue) (now work)
+    requires { ⌜ Planes-lent (shape .height * shape .width) (now red) (now green) (now blue) (now map) (now work)
         (now reds) (now greens) (now blues) ⌝ }
     ensures { λ r. ⌜ Put (now (text .entry)) 0
         (developed-text (frame-of shape (now (mosaic .entry))) (develop-answer (frame-of shape (now (mosaic .entry))) (lent (frame-of shape (now (mosaic .entry))))))
         (now (text .exit)) r ⌝ }
 {
-    match develop::develop(shape, mosaic, red, green, blue, work) {
+    match develop::develop(shape, mosaic, red, green, blue, map, work) {
         Answer::Refused(why) => text::refusal(text, why),
         Answer::Done => {
             clamp_plane(red, reds);
@@ -114,13 +115,14 @@ fn file_text(
     red: &mut [i32],
     green: &mut [i32],
     blue: &mut [i32],
+    map: &mut [u8],
     work: &mut [i32],
     reds: &mut [i32],
     greens: &mut [i32],
     blues: &mut [i32],
 ) -> usize
     requires { ⌜ (25623 ≤ length (now text)) × (length (now samples) ≡ 1024) ⌝ }
-    requires { ⌜ Planes-lent 1024 (now red) (now green) (now blue) (now work) (now reds) (now greens) (now blues) ⌝ }
+    requires { ⌜ Planes-lent 1024 (now red) (now green) (now blue) (now map) (now work) (now reds) (now greens) (now blues) ⌝ }
     ensures { λ r. ⌜ Put (now (text .entry)) 0 (text-of (reading (now (file .entry)) 1024)) (now (text .exit)) r ⌝ }
 {
     match reader::read(file, samples) {
@@ -135,6 +137,7 @@ fn file_text(
                 &mut red[0..count],
                 &mut green[0..count],
                 &mut blue[0..count],
+                &mut map[0..count],
                 &mut work[0..size],
                 &mut reds[0..count],
                 &mut greens[0..count],
@@ -159,6 +162,7 @@ pub fn compose(file: &[u8], text: &mut [u8]) -> usize
     let mut red = [0i32; 1024];
     let mut green = [0i32; 1024];
     let mut blue = [0i32; 1024];
+    let mut map = [0u8; 1024];
     let mut work = [0i32; 4096];
     let mut reds = [0i32; 1024];
     let mut greens = [0i32; 1024];
@@ -170,6 +174,7 @@ pub fn compose(file: &[u8], text: &mut [u8]) -> usize
         &mut red,
         &mut green,
         &mut blue,
+        &mut map,
         &mut work,
         &mut reds,
         &mut greens,

@@ -33,7 +33,7 @@ half-around H W c lo hi q row r h x i j o' o a b p e =
 -- ---- the rows of a buffer
 
 module _ (f : Frame) (place : ℕ → ℕ) (s o lo hi : ℕ) (q : ℕ → ℕ → ℤ) (src : List ℤ) (wide : 2 ≤ f .width)
-    (held : Stands place s o (chroma-count f) lo hi (chroma-row f q) src) where
+    (held : Stands (pos 0) place s o (chroma-count f) lo hi (chroma-row f q) src) where
   -- entry k of row r
   pub entry-of-row : (r k a : ℕ) → lo ≤ r → r < hi → k < chroma-count f r → a ≡ place r * s + o
       → getD src (a + k) (pos 0) ≡ q r (chroma-start (f .phase) r + 2 * k)

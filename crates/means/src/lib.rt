@@ -49,6 +49,7 @@ fn mean_of_zeros(v: [u64; 4], g: [u64; 4]) -> u64
 }
 
 // The weighted mean of naturals. All is times the product of the four gradients, so that each weight is the product of the other three.
+// Sum and divisor are formed before the test, so that nothing is left to do behind it but the division.
 fn natural_mean(v: [u64; 4], g: [u64; 4]) -> u64
     requires { ⌜ Natural-mean-fits v g ⌝ }
     ensures { λ r. ⌜ pos r ≡ weighted-mean (signed (numbers v)) (numbers g) ⌝ }
@@ -60,12 +61,13 @@ fn natural_mean(v: [u64; 4], g: [u64; 4]) -> u64
     let across = e * w;
     let down = s * n;
     let d = paired(e + w, down, s + n, across);
+    let a = paired(v[0], w, v[1], e);
+    let b = paired(v[2], n, v[3], s);
+    let sum = paired(a, down, b, across);
     if d == 0 {
         return mean_of_zeros(v, g);
     }
-    let a = paired(v[0], w, v[1], e);
-    let b = paired(v[2], n, v[3], s);
-    rounded(paired(a, down, b, across), d)
+    rounded(sum, d)
 }
 
 // The same four numbers, none of them negative, as unsigned ones.

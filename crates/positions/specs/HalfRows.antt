@@ -29,7 +29,7 @@ unfoldable pub chroma-count : Frame → ℕ → ℕ
 chroma-count f i = half-count (f .width) (chroma-start (f .phase) i)
 
 -- a quantity of the red and blue sites, row by row
-unfoldable pub chroma-row : Frame → (ℕ → ℕ → ℤ) → ℕ → ℕ → ℤ
+unfoldable pub chroma-row : {A : Type 0} → Frame → (ℕ → ℕ → A) → ℕ → ℕ → A
 chroma-row f q i k = q i (chroma-start (f .phase) i + 2 * k)
 
 -- a local half row of the columns c, c + 2, ..: column c + 2·k at entry k + 4, reflected columns outside; its entries from lo to

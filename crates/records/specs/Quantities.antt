@@ -6,7 +6,7 @@ use lib.IntN.{ℤ, pos}
 use Rattle.frame.specs.Sites.{Frame, Colour}
 use Rattle.frame.specs.Colours.{trade}
 use Rattle.method.specs.Gradients.{mosaic, gradients-at}
-use Rattle.method.specs.Green.{Direction, trial-difference}
+use Rattle.method.specs.Green.{Direction, horizontal, Outcome, outcome-at, trial-difference, decision-code, decided, decision-entry}
 use Rattle.method.specs.Planes.{green-difference, final-difference, chroma-site-difference, output}
 use Rattle.positions.specs.HalfRows.{chroma-start, chroma-count, in-halves}
 use Rattle.records.specs.Layout.{south-part}
@@ -31,6 +31,13 @@ east-entry f i k =
 unfoldable pub gradient-entry : Frame → ℕ → ℕ → ℤ
 gradient-entry f i k = cond (ltb k (south-part (f .width))) (east-entry f i k) (in-halves f (souths f) i (k - south-part (f .width)))
 
+-- the code of an outcome of the first pass: at a weak site that of one resolved across, until the second pass resolves it
+abbrev pub first-code : Outcome → ℕ
+first-code o = decision-code (decided o horizontal)
+
+unfoldable pub first-codes : Frame → ℕ → ℕ → ℕ
+first-codes f i j = first-code (outcome-at (mosaic f) i j)
+
 -- r_k, D, and the final difference of the red and blue sites
 unfoldable pub trials : Frame → Direction → ℕ → ℕ → ℤ
 trials f k = trial-difference (mosaic f) k
@@ -48,3 +55,7 @@ others f i j = chroma-site-difference (mosaic f) (trade (mosaic f .colour-at i j
 -- the three numbers
 unfoldable pub outputs : Frame → Colour → ℕ → ℕ → ℤ
 outputs f c = output (mosaic f) c
+
+-- the entries of the map
+unfoldable pub decisions : Frame → ℕ → ℕ → ℕ
+decisions f = decision-entry (mosaic f)

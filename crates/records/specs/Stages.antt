@@ -12,9 +12,9 @@ use Rattle.method.specs.Green.{vertical, diagonal}
 use Rattle.positions.specs.Taken.{Taken}
 use Rattle.positions.specs.HalfRows.{chroma-count, chroma-row, in-halves}
 use Rattle.positions.specs.Rings.{place-in-ring, Round}
-use Rattle.records.specs.Held.{Held, Kept}
+use Rattle.records.specs.Held.{Held, Map-held, Kept}
 use Rattle.records.specs.Layout.{record-size, gradient-size, final-part, other-part, top-size}
-use Rattle.records.specs.Quantities.{norths, gradient-entry, trials, greens, finals, others}
+use Rattle.records.specs.Quantities.{norths, gradient-entry, trials, first-codes, greens, finals, others, decisions}
 
 -- the gradients of the rows from lo to hi − 1: E and S in their records, N of the rows 0 and 1 in tops
 pub record Gradients (f : Frame) (lo hi : ℕ) (tops work : List ℤ) : Type 0 where
@@ -29,7 +29,7 @@ pub record Lent (f : Frame) (i base : ℕ) (tops work : List ℤ) : Type 0 where
   pub tops-size : length tops ≡ 2 * top-size
   pub work-size : length work ≡ f .height * record-size (f .width)
 
-abbrev pub Plane-size : Frame → List ℤ → Type 0
+abbrev pub Plane-size : {A : Type 0} → Frame → List A → Type 0
 Plane-size f plane = length plane ≡ f .height * f .width
 
 -- a quantity of the red and blue sites of the rows from lo to hi − 1, in a plane and in the records
@@ -38,6 +38,10 @@ Chroma-held f lo hi q plane = Held (f .width) 0 (chroma-count f) lo hi (chroma-r
 
 abbrev pub Chroma-kept : Frame → ℕ → ℕ → ℕ → (ℕ → ℕ → ℤ) → List ℤ → Type 0
 Chroma-kept f o lo hi q work = Kept (record-size (f .width)) o (chroma-count f) lo hi (chroma-row f q) work
+
+-- the codes of the first pass at the red and blue sites of these rows, in the map
+abbrev pub Codes-held : Frame → ℕ → ℕ → List ℕ → Type 0
+Codes-held f lo hi map = Map-held (f .width) 0 (chroma-count f) lo hi (chroma-row f (first-codes f)) map
 
 -- ---- first: E, S, r_D and r_V of row i, from the mosaic; N is S of row i − 2
 pub record First-reads (f : Frame) (i base : ℕ) (tops work : List ℤ) : Type 0 where
@@ -60,7 +64,11 @@ Chroma-stored f q i old new = Wrote (pos 0) (i * f .width) (chroma-count f i) (c
 abbrev pub Record-stored : Frame → ℕ → (ℕ → ℕ → ℤ) → ℕ → List ℤ → List ℤ → Type 0
 Record-stored f o q i old new = Wrote (pos 0) (place-in-ring i * record-size (f .width) + o) (chroma-count f i) (chroma-row f q i) old new
 
--- ---- second: D of row i, from r_D and r_V of the rows to 8 off
+-- the codes of the first pass in row i of the map
+abbrev pub Codes-stored : Frame → ℕ → List ℕ → List ℕ → Type 0
+Codes-stored f i old new = Wrote 0 (i * f .width) (chroma-count f i) (chroma-row f (first-codes f) i) old new
+
+-- ---- second: D of row i, from r_D and r_V of the rows to 8 off; row i of the map, from these and the codes of the first pass
 pub record Second-reads (f : Frame) (i : ℕ) (diagonals verticals : List ℤ) : Type 0 where
   pub taken : Taken f
   pub inside : i < f .height
@@ -69,9 +77,17 @@ pub record Second-reads (f : Frame) (i : ℕ) (diagonals verticals : List ℤ) :
   pub diagonals-held : Chroma-held f (i - 8) (min (i + 9) (f .height)) (trials f diagonal) diagonals
   pub verticals-held : Chroma-held f (i - 8) (min (i + 9) (f .height)) (trials f vertical) verticals
 
-pub record Second-stores (shape : Shape) (i : ℕ) (diagonals verticals old new : List ℤ) : Type 0 where
-  pub row : (zs : List ℕ) → Second-reads (frame shape zs) i diagonals verticals
-      → Chroma-stored (frame shape zs) (greens (frame shape zs)) i old new
+pub record Second-lent (f : Frame) (i : ℕ) (diagonals verticals : List ℤ) (map : List ℕ) : Type 0 where
+  pub planes : Second-reads f i diagonals verticals
+  pub map-size : Plane-size f map
+  pub codes : Codes-held f i (i + 1) map
+
+pub record Second-stored (f : Frame) (i : ℕ) (green green' : List ℤ) (map map' : List ℕ) : Type 0 where
+  pub differences-stored : Chroma-stored f (greens f) i green green'
+  pub map-stored : Wrote 0 (i * f .width) (f .width) (decisions f i) map map'
+
+pub record Second-stores (shape : Shape) (i : ℕ) (diagonals verticals green green' : List ℤ) (map map' : List ℕ) : Type 0 where
+  pub row : (zs : List ℕ) → Second-lent (frame shape zs) i diagonals verticals map → Second-stored (frame shape zs) i green green' map map'
 
 -- ---- enhance: the final difference of row i, from D of the rows i and two off
 pub record Enhance-reads (f : Frame) (i base : ℕ) (tops work green : List ℤ) : Type 0 where

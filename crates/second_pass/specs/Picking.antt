@@ -12,7 +12,8 @@ use Rattle.toolkit.specs.Writes.{Wrote, wrote-as}
 use Rattle.frame.specs.Sites.{Frame, around}
 use Rattle.method.specs.Gradients.{mosaic, exchanged}
 use Rattle.method.specs.Green.{Direction, horizontal, vertical, diagonal, reach, column-sum, horizontal-sum, vertical-sum, diagonal-sum}
-use Rattle.method.specs.Green.{least-sum, second-pass, second-pass-at, green-at, trial-difference}
+use Rattle.method.specs.Green.{less-eight, least-sum, second-pass, second-pass-at, trial-difference}
+use Rattle.method.specs.GreenLaws.{green-is-decided}
 use Rattle.method.specs.Planes.{green-difference}
 use Rattle.positions.specs.ColumnLaws.{column-inside}
 use Rattle.positions.specs.HalfRows.{chroma-start, chroma-count, chroma-row, Half}
@@ -35,7 +36,7 @@ pub second-not : (a : Bool) {b : Bool} → b ≡ false → (a && b) ≡ false
 second-not true e = e
 second-not false e = refl
 
-module _ (FH FV FD x y z : ℤ) where
+module _ {A : Type 0} (FH FV FD : ℤ) (x y z : A) where
   pub picked-first : (ltZ FH FV && ltZ FH FD) ≡ true → x ≡ picked FH FV FD x y z
   unfolding picked
   picked-first e = rw e
@@ -49,13 +50,13 @@ module _ (FH FV FD x y z : ℤ) where
   picked-third e f = rw (e, f)
 
 -- of numbers as they were read
-pub picked-read : {FH FV FD x y z a b c d e f : ℤ} → a ≡ FH → b ≡ FV → c ≡ FD → d ≡ x → e ≡ y → f ≡ z → picked a b c d e f ≡ picked FH FV FD x y z
+pub picked-read : {A : Type 0} {FH FV FD a b c : ℤ} {x y z d e f : A} → a ≡ FH → b ≡ FV → c ≡ FD → d ≡ x → e ≡ y → f ≡ z → picked a b c d e f ≡ picked FH FV FD x y z
 picked-read p q r s t u = rw (p, q, r, s, t, u)
 
 -- ---- what is picked
 
 -- by the least sum
-picked-is : (r : Direction → ℤ) (a b c : ℕ) → picked (pos a) (pos b) (pos c) (r horizontal) (r vertical) (r diagonal) ≡ r (least-sum a b c)
+picked-is : {A : Type 0} (r : Direction → A) (a b c : ℕ) → picked (pos a) (pos b) (pos c) (r horizontal) (r vertical) (r diagonal) ≡ r (least-sum a b c)
 unfolding picked least-sum
 picked-is r a b c = by-tests (ltb a b && ltb a c) (ltb b a && ltb b c)
   where
@@ -75,8 +76,18 @@ second-is f i j = refl
 
 -- D is the trial difference that it takes: where the site has its first-pass green, all three are equal to it
 green-is : (f : Frame) (i j : ℕ) → greens f i j ≡ trials f (second-pass-at (mosaic f) i j) i j
-unfolding greens trials green-difference green-at trial-difference
-green-is f i j = refl
+unfolding greens trials green-difference trial-difference
+green-is f i j = ap (λ (g : ℤ). less-eight g (mosaic f .sample-at i j)) (green-is-decided (mosaic f) i j)
+
+-- what is picked by the sums of a row is that of the direction that the second pass takes
+pub picked-as : {A : Type 0} (f : Frame) (i : ℕ) (fh fv fd : List ℤ) → Sums f 3 i fh fv fd → (r : Direction → A) (x : ℕ) → 4 ≤ x → x < chroma-count f i + 4
+    → picked (pos 2 *ℤ getD fh x (pos 0)) (pos 2 *ℤ getD fv x (pos 0)) (getD fd x (pos 0)) (r horizontal) (r vertical) (r diagonal)
+    ≡ r (second-pass-at (mosaic f) i (chroma-start (f .phase) i + 2 * (x - 4)))
+unfolding reach
+picked-as f i fh fv fd sums r x a b =
+    picked-read (ap (λ (z : ℤ). pos 2 *ℤ z) (sums .across .at x a b)) (ap (λ (z : ℤ). pos 2 *ℤ z) (sums .down .at x a b)) (sums .both .at x a b)
+    refl refl refl
+    ∙ (picked-is r _ _ _ ∙ ap r (sym (second-is f i (chroma-start (f .phase) i + 2 * (x - 4)))))
 
 module _ (f : Frame) (i : ℕ) (diagonals verticals rh rv rd fh fv fd : List ℤ) (read : Sums-read f i diagonals verticals rh rv rd)
     (sums : Sums f 3 i fh fv fd) where
@@ -91,13 +102,13 @@ module _ (f : Frame) (i : ℕ) (diagonals verticals rh rv rd fh fv fd : List ℤ
       (column-inside (f .width) (chroma-start (f .phase) i + 2 * x) (read .planes .taken .wide) (omega arith) (omega arith) ∙ omega arith)
 
   green-entry : (x : ℕ) → 4 ≤ x → x < chroma-count f i + 4 → picked-entry rh rv rd fh fv fd x ≡ greens f i (chroma-start (f .phase) i + 2 * (x - 4))
-  unfolding picked-entry reach
+  unfolding picked-entry
   green-entry x a b =
       let j = chroma-start (f .phase) i + 2 * (x - 4) in
-      picked-read (ap (λ (z : ℤ). pos 2 *ℤ z) (sums .across .at x a b)) (ap (λ (z : ℤ). pos 2 *ℤ z) (sums .down .at x a b)) (sums .both .at x a b)
+      picked-read refl refl refl
       (own horizontal rh x (read .across-row) (omega arith) (omega arith) a b) (own vertical rv x (read .down-row) a b a b)
       (own diagonal rd x (read .both-row) (omega arith) (omega arith) a b)
-      ∙ (picked-is (λ k. trials f k i j) _ _ _ ∙ (ap (λ (k : Direction). trials f k i j) (sym (second-is f i j)) ∙ sym (green-is f i j)))
+      ∙ (picked-as f i fh fv fd sums (λ k. trials f k i j) x a b ∙ sym (green-is f i j))
 
   pub line-stored : (count : ℕ) (old new : List ℤ) → count ≡ chroma-count f i
       → Wrote (pos 0) (i * f .width) count (λ (k : ℕ). picked-entry rh rv rd fh fv fd (k + 4)) old new → Chroma-stored f (greens f) i old new

@@ -11,10 +11,10 @@ use Rattle.method.specs.Green.{vertical, diagonal}
 use Rattle.positions.specs.Taken.{Taken}
 use Rattle.positions.specs.HalfRows.{chroma-count, chroma-row, in-halves}
 use Rattle.positions.specs.Rings.{Round}
-use Rattle.records.specs.Turns.{Turn, Ring-turn}
+use Rattle.records.specs.Turns.{Turn, Map-turn, Ring-turn}
 use Rattle.records.specs.Layout.{record-size, gradient-size, final-part, other-part, top-size}
-use Rattle.records.specs.Quantities.{norths, gradient-entry, trials, greens, finals, others, outputs}
-use Rattle.records.specs.Stages.{Gradients, Plane-size, Chroma-held, Chroma-kept}
+use Rattle.records.specs.Quantities.{norths, gradient-entry, first-codes, trials, greens, finals, others, outputs, decisions}
+use Rattle.records.specs.Stages.{Gradients, Plane-size, Chroma-held, Chroma-kept, Codes-held}
 use Rattle.mosaic_rows.specs.RingRows.{Rows-kept}
 use Rattle.first_stage.specs.FirstStage.{Sums-kept, Line-loaded}
 
@@ -44,27 +44,34 @@ pub record First-asks (f : Frame) (t base : ℕ) (rows alongs : List ℕ) (tops 
   pub sums : Sums-kept f (t - 4 - 4) (min (t + 5 - 4) (f .height)) rows alongs
   pub above : Gradients f (t - 4 - 2) (min (t - 4) (f .height)) tops work
 
-pub record First-turns (f : Frame) (t : ℕ) (tops tops' work work' red red' blue blue' : List ℤ) : Type 0 where
+pub record First-turns (f : Frame) (t : ℕ) (tops tops' work work' red red' blue blue' : List ℤ) (map map' : List ℕ) : Type 0 where
   pub tops-turn : Turn 2 4 t top-size 0 (λ r. f .width) (in-halves f (norths f)) tops tops'
   pub work-turn : Ring-turn (f .height) 4 t (record-size (f .width)) 0 (λ r. gradient-size (f .width)) (gradient-entry f) work work'
   pub red-turn : Chroma-turn f 4 t (trials f diagonal) red red'
   pub blue-turn : Chroma-turn f 4 t (trials f vertical) blue blue'
+  pub codes-turn : Map-turn (f .height) 4 t (f .width) 0 (chroma-count f) (chroma-row f (first-codes f)) map map'
 
-pub record First-turned (shape : Shape) (t base : ℕ) (rows alongs : List ℕ) (tops tops' work work' red red' blue blue' : List ℤ) : Type 0 where
+pub record First-turned (shape : Shape) (t base : ℕ) (rows alongs : List ℕ) (tops tops' work work' red red' blue blue' : List ℤ)
+    (map map' : List ℕ) : Type 0 where
   pub turn : (zs : List ℕ) → First-asks (frame shape zs) t base rows alongs tops work
-      → First-turns (frame shape zs) t tops tops' work work' red red' blue blue'
+      → First-turns (frame shape zs) t tops tops' work work' red red' blue blue' map map'
 
 -- ---- second, 12 rows behind
-pub record Second-asks (f : Frame) (t : ℕ) (red blue : List ℤ) : Type 0 where
+pub record Second-asks (f : Frame) (t : ℕ) (red blue : List ℤ) (map : List ℕ) : Type 0 where
   pub taken : Taken f
   pub red-size : Plane-size f red
   pub blue-size : Plane-size f blue
   pub diagonals : Chroma-held f (t - 12 - 8) (min (t + 9 - 12) (f .height)) (trials f diagonal) red
   pub verticals : Chroma-held f (t - 12 - 8) (min (t + 9 - 12) (f .height)) (trials f vertical) blue
+  pub map-size : Plane-size f map
+  pub codes : Codes-held f (t - 12) (min (t + 1 - 12) (f .height)) map
 
-pub record Second-turned (shape : Shape) (t : ℕ) (red blue green green' : List ℤ) : Type 0 where
-  pub turn : (zs : List ℕ) → Second-asks (frame shape zs) t red blue
-      → Chroma-turn (frame shape zs) 12 t (greens (frame shape zs)) green green'
+pub record Second-turns (f : Frame) (t : ℕ) (green green' : List ℤ) (map map' : List ℕ) : Type 0 where
+  pub green-turn : Chroma-turn f 12 t (greens f) green green'
+  pub map-turn : Map-turn (f .height) 12 t (f .width) 0 (λ r. f .width) (decisions f) map map'
+
+pub record Second-turned (shape : Shape) (t : ℕ) (red blue green green' : List ℤ) (map map' : List ℕ) : Type 0 where
+  pub turn : (zs : List ℕ) → Second-asks (frame shape zs) t red blue map → Second-turns (frame shape zs) t green green' map map'
 
 -- ---- enhance, 14 rows behind
 pub record Enhance-asks (f : Frame) (t base : ℕ) (tops work green : List ℤ) : Type 0 where

@@ -7,7 +7,7 @@ use Rattle.frame.specs.Sites.{Frame}
 use Rattle.positions.specs.Rings.{Round}
 use Rattle.positions.specs.RingLaws.{round-part}
 use Rattle.records.specs.TurnLaws.{held-part}
-use Rattle.records.specs.Stages.{Gradients, Lent, Second-reads, Enhance-reads, Diagonal-reads}
+use Rattle.records.specs.Stages.{Gradients, Lent, Second-lent, Enhance-reads, Diagonal-reads}
 use Rattle.mosaic_rows.specs.RingRows.{Rows-kept}
 use Rattle.first_stage.specs.FirstStage.{Sums-kept, First-lent}
 use Rattle.out_stage.specs.OutRows.{Out-lent}
@@ -80,12 +80,17 @@ module _ {f : Frame} {t base : ℕ} {tops work : List ℤ} where
     row = s .kept .row (t - 20) (omega arith) (omega arith);
   }
 
-pub second-reads : {f : Frame} {t : ℕ} {red blue : List ℤ} → Second-asks f t red blue → 12 ≤ t → t - 12 < f .height → Second-reads f (t - 12) red blue
-second-reads s a l = record {
-  taken = s .taken;
-  inside = l;
-  diagonals-size = s .red-size;
-  verticals-size = s .blue-size;
-  diagonals-held = held-part (s .diagonals) (omega arith) (omega arith);
-  verticals-held = held-part (s .verticals) (omega arith) (omega arith);
+pub second-lent : {f : Frame} {t : ℕ} {red blue : List ℤ} {map : List ℕ} → Second-asks f t red blue map → 12 ≤ t → t - 12 < f .height
+    → Second-lent f (t - 12) red blue map
+second-lent s a l = record {
+  planes = record {
+    taken = s .taken;
+    inside = l;
+    diagonals-size = s .red-size;
+    verticals-size = s .blue-size;
+    diagonals-held = held-part (s .diagonals) (omega arith) (omega arith);
+    verticals-held = held-part (s .verticals) (omega arith) (omega arith);
+  };
+  map-size = s .map-size;
+  codes = held-part (s .codes) (omega arith) (omega arith);
 }

@@ -17,6 +17,7 @@ pub record Row-arrays (v : List ℕ) (gradients : List ℤ) : Type 0 where
 --   enhance    a; b                D; M
 --   diagonal   a, b; d             the final differences of the rows above and below; the means of the corners
 --   out        a, b; l, m; d to m  both differences of the red and blue sites; of the green sites; the six half rows of outputs
+-- Second has one half row more for itself, of bytes: codes, how the green of each site was decided.
 pub record Half-arrays (n a b d e f g l m : List ℤ) : Type 0 where
   pub n-size : length n ≡ 2064
   pub a-size : length a ≡ 2064

@@ -30,7 +30,7 @@ pub fn load_turn(
     }
 }
 
-// E, S, r_D and r_V of row t − 4.
+// E, S, r_D, r_V and the codes of row t − 4.
 pub fn first_turn(
     rows: &[u16; 98688],
     alongs: &[u16; 98688],
@@ -46,13 +46,15 @@ pub fn first_turn(
     work: &mut [i32],
     red: &mut [i32],
     blue: &mut [i32],
+    map: &mut [u8],
 )
     requires { ⌜ Some-samples (λ (zs : List ℕ). First-asks (frame shape zs) t base (now rows) (now alongs) (now tops) (now work)) ⌝ }
-    requires { ⌜ (length (now red) ≡ shape .height * shape .width) × (length (now blue) ≡ shape .height * shape .width) ⌝ }
+    requires { ⌜ (length (now red) ≡ shape .height * shape .width) × (length (now blue) ≡ shape .height * shape .width)
+        × (length (now map) ≡ shape .height * shape .width) ⌝ }
     requires { ⌜ First-room (now v) (now gradients) (now n) (now a) (now b) ⌝ }
     ensures { λ _. ⌜ First-turned shape t base (now (rows .entry)) (now (alongs .entry)) (now (tops .entry)) (now (tops .exit))
         (now (work .entry)) (now (work .exit))
-        (now (red .entry)) (now (red .exit)) (now (blue .entry)) (now (blue .exit)) ⌝ }
+        (now (red .entry)) (now (red .exit)) (now (blue .entry)) (now (blue .exit)) (now (map .entry)) (now (map .exit)) ⌝ }
     ensures { λ _. ⌜ First-room (now (v .exit)) (now (gradients .exit)) (now (n .exit)) (now (a .exit)) (now (b .exit)) ⌝ }
 {
     if t < 4 {
@@ -75,11 +77,12 @@ pub fn first_turn(
             work,
             red,
             blue,
+            map,
         );
     }
 }
 
-// D of row t − 12.
+// D and the map of row t − 12.
 pub fn second_turn(
     red: &[i32],
     blue: &[i32],
@@ -91,22 +94,26 @@ pub fn second_turn(
     e: &mut [i32; 2064],
     f: &mut [i32; 2064],
     g: &mut [i32; 2064],
+    codes: &mut [u8; 2048],
     green: &mut [i32],
+    map: &mut [u8],
 )
-    requires { ⌜ Some-samples (λ (zs : List ℕ). Second-asks (frame shape zs) t (now red) (now blue)) ⌝ }
+    requires { ⌜ Some-samples (λ (zs : List ℕ). Second-asks (frame shape zs) t (now red) (now blue) (now map)) ⌝ }
     requires { ⌜ length (now green) ≡ shape .height * shape .width ⌝ }
     requires { ⌜ (length (now a) ≡ 2064) × (length (now b) ≡ 2064) × (length (now d) ≡ 2064) × (length (now e) ≡ 2064) × (length (now f) ≡ 2064)
-        × (length (now g) ≡ 2064) ⌝ }
-    ensures { λ _. ⌜ Second-turned shape t (now (red .entry)) (now (blue .entry)) (now (green .entry)) (now (green .exit)) ⌝ }
+        × (length (now g) ≡ 2064) × (length (now codes) ≡ 2048) ⌝ }
+    ensures { λ _. ⌜ Second-turned shape t (now (red .entry)) (now (blue .entry)) (now (green .entry)) (now (green .exit))
+        (now (map .entry)) (now (map .exit)) ⌝ }
     ensures { λ _. ⌜ (length (now (a .exit)) ≡ 2064) × (length (now (b .exit)) ≡ 2064) × (length (now (d .exit)) ≡ 2064)
-        × (length (now (e .exit)) ≡ 2064) × (length (now (f .exit)) ≡ 2064) × (length (now (g .exit)) ≡ 2064) ⌝ }
+        × (length (now (e .exit)) ≡ 2064) × (length (now (f .exit)) ≡ 2064) × (length (now (g .exit)) ≡ 2064)
+        × (length (now (codes .exit)) ≡ 2048) ⌝ }
 {
     if t < 12 {
         return;
     }
     let i = t - 12;
     if i < shape.height {
-        second_pass::second_line(red, blue, shape, i, a, b, d, e, f, g, green);
+        second_pass::second_line(red, blue, shape, i, a, b, d, e, f, g, codes, green, map);
     }
 }
 

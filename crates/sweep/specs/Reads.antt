@@ -11,9 +11,9 @@ use Rattle.stage_turns.specs.RowsDue.{rows-part, sums-part, gradients-part}
 use Rattle.sweep.specs.Loads.{Mosaic-kept}
 use Rattle.sweep.specs.Invariant.{Sweep}
 
-module _ {f : Frame} {t base : ℕ} {tops work red green blue : List ℤ} where
+module _ {f : Frame} {t base : ℕ} {tops work red green blue : List ℤ} {map : List ℕ} where
   pub first-asks : {rows alongs : List ℕ} → Round base (t - 24) t → Mosaic-kept f (t + 1) rows alongs
-      → Sweep f t t t t t tops work red green blue → First-asks f t base rows alongs tops work
+      → Sweep f t t t t t tops work red green blue map → First-asks f t base rows alongs tops work
   first-asks r m s = record {
     buffers = s .buffers;
     round = r;
@@ -22,7 +22,7 @@ module _ {f : Frame} {t base : ℕ} {tops work red green blue : List ℤ} where
     above = gradients-part (s .gradients) (omega arith) (omega arith);
   }
 
-  pub enhance-asks : Round base (t - 24) t → Sweep f (t + 1) (t + 1) t t t tops work red green blue → Enhance-asks f t base tops work green
+  pub enhance-asks : Round base (t - 24) t → Sweep f (t + 1) (t + 1) t t t tops work red green blue map → Enhance-asks f t base tops work green
   enhance-asks r s = record {
     buffers = s .buffers;
     round = r;
@@ -31,7 +31,7 @@ module _ {f : Frame} {t base : ℕ} {tops work red green blue : List ℤ} where
     differences = held-part (s .differences) (omega arith) (omega arith);
   }
 
-  pub diagonal-asks : Round base (t - 24) t → Sweep f (t + 1) (t + 1) (t + 1) t t tops work red green blue → Diagonal-asks f t base tops work
+  pub diagonal-asks : Round base (t - 24) t → Sweep f (t + 1) (t + 1) (t + 1) t t tops work red green blue map → Diagonal-asks f t base tops work
   diagonal-asks r s = record {
     buffers = s .buffers;
     round = r;
@@ -40,7 +40,7 @@ module _ {f : Frame} {t base : ℕ} {tops work red green blue : List ℤ} where
   }
 
   pub out-asks : {rows alongs : List ℕ} → Round base (t - 24) t → Mosaic-kept f (t + 1) rows alongs
-      → Sweep f (t + 1) (t + 1) (t + 1) (t + 1) t tops work red green blue → Out-asks f t base rows tops work
+      → Sweep f (t + 1) (t + 1) (t + 1) (t + 1) t tops work red green blue map → Out-asks f t base rows tops work
   out-asks r m s = record {
     buffers = s .buffers;
     round = r;
@@ -50,12 +50,14 @@ module _ {f : Frame} {t base : ℕ} {tops work red green blue : List ℤ} where
     other = held-part (s .other) (omega arith) (omega arith);
   }
 
-pub second-asks : {f : Frame} {t : ℕ} {tops work red green blue : List ℤ} → Sweep f (t + 1) t t t t tops work red green blue
-    → Second-asks f t red blue
+pub second-asks : {f : Frame} {t : ℕ} {tops work red green blue : List ℤ} {map : List ℕ} → Sweep f (t + 1) t t t t tops work red green blue map
+    → Second-asks f t red blue map
 second-asks s = record {
   taken = s .buffers .taken;
   red-size = s .red-size;
   blue-size = s .blue-size;
   diagonals = held-part (s .diagonals) (omega arith) (omega arith);
   verticals = held-part (s .verticals) (omega arith) (omega arith);
+  map-size = s .map-size;
+  codes = held-part (s .codes) (omega arith) (omega arith);
 }

@@ -52,13 +52,14 @@ buffers-then : {f : Frame} {tops tops' work work' : List ℤ} → Buffers f tops
     → Buffers f tops' work'
 buffers-then b p q = record { taken = b .taken; tops-size = p ∙ b .tops-size; work-size = q ∙ b .work-size }
 
-pub sweep-none : {f : Frame} {tops work red green blue : List ℤ} → Buffers f tops work → Plane-size f red → Plane-size f green
-    → Plane-size f blue → Sweep f 0 0 0 0 0 tops work red green blue
-sweep-none b r g l = record {
+pub sweep-none : {f : Frame} {tops work red green blue : List ℤ} {map : List ℕ} → Buffers f tops work → Plane-size f red → Plane-size f green
+    → Plane-size f blue → Plane-size f map → Sweep f 0 0 0 0 0 tops work red green blue map
+sweep-none b r g l m = record {
   buffers = b;
   red-size = r;
   green-size = g;
   blue-size = l;
+  map-size = m;
   gradients = record { records = held-none (omega arith); top-rows = held-none (omega arith) };
   diagonals = held-none (omega arith);
   verticals = held-none (omega arith);
@@ -68,11 +69,13 @@ sweep-none b r g l = record {
   reds = held-none (omega arith);
   greens-shown = held-none (omega arith);
   blues = held-none (omega arith);
+  codes = held-none (omega arith);
+  decided = held-none (omega arith);
 }
 
-module _ {f : Frame} {t : ℕ} {tops work red green blue : List ℤ} where
-  first-turned : {tops' work' red' blue' : List ℤ} → Sweep f t t t t t tops work red green blue
-      → First-turns f t tops tops' work work' red red' blue blue' → Sweep f (t + 1) t t t t tops' work' red' green blue'
+module _ {f : Frame} {t : ℕ} {tops work red green blue : List ℤ} {map : List ℕ} where
+  first-turned : {tops' work' red' blue' : List ℤ} {map' : List ℕ} → Sweep f t t t t t tops work red green blue map
+      → First-turns f t tops tops' work work' red red' blue blue' map map' → Sweep f (t + 1) t t t t tops' work' red' green blue' map'
   first-turned s w =
       let k = s .buffers .taken in
       let tops-before : Held top-size 0 (λ r. f .width) 0 (min (t - 4) 2) (in-halves f (norths f)) tops =
@@ -82,6 +85,7 @@ module _ {f : Frame} {t : ℕ} {tops work red green blue : List ℤ} where
         red-size = turn-size (w .red-turn) ∙ s .red-size;
         green-size = s .green-size;
         blue-size = turn-size (w .blue-turn) ∙ s .blue-size;
+        map-size = turn-size (w .codes-turn) ∙ s .map-size;
         gradients = record {
           records = ring-next (w .work-turn) (gradient-fit f k) (s .gradients .records);
           top-rows = held-part tops-after (omega arith) (omega arith);
@@ -94,37 +98,42 @@ module _ {f : Frame} {t : ℕ} {tops work red green blue : List ℤ} where
         reds = turn-past (w .red-turn) (plane-fit f k) (row-fit f) (omega arith) (s .reds);
         greens-shown = s .greens-shown;
         blues = turn-past (w .blue-turn) (plane-fit f k) (row-fit f) (omega arith) (s .blues);
+        codes = turn-next (w .codes-turn) (plane-fit f k) (s .codes);
+        decided = turn-past (w .codes-turn) (plane-fit f k) (row-fit f) (omega arith) (s .decided);
       }
 
-module _ {shape : Shape} {zs : List ℕ} {t : ℕ} {tops work red green blue : List ℤ} where
-  pub after-first : {base : ℕ} {rows alongs : List ℕ} {tops' work' red' blue' : List ℤ} → Round base (t - 24) t
-      → Mosaic-kept (frame shape zs) (t + 1) rows alongs → Sweep (frame shape zs) t t t t t tops work red green blue
-      → First-turned shape t base rows alongs tops tops' work work' red red' blue blue'
-      → Sweep (frame shape zs) (t + 1) t t t t tops' work' red' green blue'
+module _ {shape : Shape} {zs : List ℕ} {t : ℕ} {tops work red green blue : List ℤ} {map : List ℕ} where
+  pub after-first : {base : ℕ} {rows alongs : List ℕ} {tops' work' red' blue' : List ℤ} {map' : List ℕ} → Round base (t - 24) t
+      → Mosaic-kept (frame shape zs) (t + 1) rows alongs → Sweep (frame shape zs) t t t t t tops work red green blue map
+      → First-turned shape t base rows alongs tops tops' work work' red red' blue blue' map map'
+      → Sweep (frame shape zs) (t + 1) t t t t tops' work' red' green blue' map'
   after-first r m s p = first-turned s (p .turn zs (first-asks r m s))
 
-  pub after-second : {green' : List ℤ} → Sweep (frame shape zs) (t + 1) t t t t tops work red green blue → Second-turned shape t red blue green green'
-      → Sweep (frame shape zs) (t + 1) (t + 1) t t t tops work red green' blue
+  pub after-second : {green' : List ℤ} {map' : List ℕ} → Sweep (frame shape zs) (t + 1) t t t t tops work red green blue map
+      → Second-turned shape t red blue green green' map map' → Sweep (frame shape zs) (t + 1) (t + 1) t t t tops work red green' blue map'
   after-second s p =
       let k = s .buffers .taken in
       let w = p .turn zs (second-asks s) in record {
         buffers = s .buffers;
         red-size = s .red-size;
-        green-size = turn-size w ∙ s .green-size;
+        green-size = turn-size (w .green-turn) ∙ s .green-size;
         blue-size = s .blue-size;
+        map-size = turn-size (w .map-turn) ∙ s .map-size;
         gradients = s .gradients;
         diagonals = s .diagonals;
         verticals = s .verticals;
-        differences = turn-next w (plane-fit (frame shape zs) k) (s .differences);
+        differences = turn-next (w .green-turn) (plane-fit (frame shape zs) k) (s .differences);
         own = s .own;
         other = s .other;
         reds = s .reds;
-        greens-shown = turn-past w (plane-fit (frame shape zs) k) (row-fit (frame shape zs)) (omega arith) (s .greens-shown);
+        greens-shown = turn-past (w .green-turn) (plane-fit (frame shape zs) k) (row-fit (frame shape zs)) (omega arith) (s .greens-shown);
         blues = s .blues;
+        codes = turn-over (w .map-turn) (row-fit (frame shape zs)) (plane-fit (frame shape zs) k) (s .codes);
+        decided = turn-next (w .map-turn) (row-fit (frame shape zs)) (s .decided);
       }
 
-  pub after-enhance : {base : ℕ} {work' : List ℤ} → Round base (t - 24) t → Sweep (frame shape zs) (t + 1) (t + 1) t t t tops work red green blue
-      → Enhance-turned shape t base tops green work work' → Sweep (frame shape zs) (t + 1) (t + 1) (t + 1) t t tops work' red green blue
+  pub after-enhance : {base : ℕ} {work' : List ℤ} → Round base (t - 24) t → Sweep (frame shape zs) (t + 1) (t + 1) t t t tops work red green blue map
+      → Enhance-turned shape t base tops green work work' → Sweep (frame shape zs) (t + 1) (t + 1) (t + 1) t t tops work' red green blue map
   after-enhance r s p =
       let k = s .buffers .taken in
       let w = p .turn zs (enhance-asks r s) in record {
@@ -132,6 +141,7 @@ module _ {shape : Shape} {zs : List ℕ} {t : ℕ} {tops work red green blue : L
         red-size = s .red-size;
         green-size = s .green-size;
         blue-size = s .blue-size;
+        map-size = s .map-size;
         gradients = record {
           records = turn-beside w (final-fit (frame shape zs) k) (gradient-fit (frame shape zs) k) (λ r. omega arith) (s .gradients .records);
           top-rows = s .gradients .top-rows;
@@ -144,11 +154,13 @@ module _ {shape : Shape} {zs : List ℕ} {t : ℕ} {tops work red green blue : L
         reds = s .reds;
         greens-shown = s .greens-shown;
         blues = s .blues;
+        codes = s .codes;
+        decided = s .decided;
       }
 
   pub after-diagonal : {base : ℕ} {work' : List ℤ} → Round base (t - 24) t
-      → Sweep (frame shape zs) (t + 1) (t + 1) (t + 1) t t tops work red green blue
-      → Diagonal-turned shape t base tops work work' → Sweep (frame shape zs) (t + 1) (t + 1) (t + 1) (t + 1) t tops work' red green blue
+      → Sweep (frame shape zs) (t + 1) (t + 1) (t + 1) t t tops work red green blue map
+      → Diagonal-turned shape t base tops work work' → Sweep (frame shape zs) (t + 1) (t + 1) (t + 1) (t + 1) t tops work' red green blue map
   after-diagonal r s p =
       let k = s .buffers .taken in
       let w = p .turn zs (diagonal-asks r s) in record {
@@ -156,6 +168,7 @@ module _ {shape : Shape} {zs : List ℕ} {t : ℕ} {tops work red green blue : L
         red-size = s .red-size;
         green-size = s .green-size;
         blue-size = s .blue-size;
+        map-size = s .map-size;
         gradients = record {
           records = turn-beside w (other-fit (frame shape zs) k) (gradient-fit (frame shape zs) k) (λ r. omega arith) (s .gradients .records);
           top-rows = s .gradients .top-rows;
@@ -168,18 +181,21 @@ module _ {shape : Shape} {zs : List ℕ} {t : ℕ} {tops work red green blue : L
         reds = s .reds;
         greens-shown = s .greens-shown;
         blues = s .blues;
+        codes = s .codes;
+        decided = s .decided;
       }
 
-module _ {f : Frame} {t : ℕ} {tops work red green blue red' green' blue' : List ℤ} where
-  pub after-out : Sweep f (t + 1) (t + 1) (t + 1) (t + 1) t tops work red green blue → Out-turn f t Colour.red red red'
+module _ {f : Frame} {t : ℕ} {tops work red green blue red' green' blue' : List ℤ} {map : List ℕ} where
+  pub after-out : Sweep f (t + 1) (t + 1) (t + 1) (t + 1) t tops work red green blue map → Out-turn f t Colour.red red red'
       → Out-turn f t Colour.green green green' → Out-turn f t Colour.blue blue blue'
-      → Sweep f (t + 1) (t + 1) (t + 1) (t + 1) (t + 1) tops work red' green' blue'
+      → Sweep f (t + 1) (t + 1) (t + 1) (t + 1) (t + 1) tops work red' green' blue' map
   after-out s r g b =
       let k = s .buffers .taken in record {
         buffers = s .buffers;
         red-size = turn-size r ∙ s .red-size;
         green-size = turn-size g ∙ s .green-size;
         blue-size = turn-size b ∙ s .blue-size;
+        map-size = s .map-size;
         gradients = s .gradients;
         diagonals = turn-over r (row-fit f) (plane-fit f k) (s .diagonals);
         verticals = turn-over b (row-fit f) (plane-fit f k) (s .verticals);
@@ -189,17 +205,20 @@ module _ {f : Frame} {t : ℕ} {tops work red green blue red' green' blue' : Lis
         reds = turn-next r (row-fit f) (s .reds);
         greens-shown = turn-next g (row-fit f) (s .greens-shown);
         blues = turn-next b (row-fit f) (s .blues);
+        codes = s .codes;
+        decided = s .decided;
       }
 
 -- all turns
 pub step-made : {shape : Shape} {zs : List ℕ} {t base : ℕ} {rows alongs : List ℕ}
-    {tops work red green blue tops' work₁ red₁ blue₁ green₁ work₂ work₃ red' green' blue' : List ℤ} → Round base (t - 24) t
-    → Mosaic-kept (frame shape zs) (t + 1) rows alongs → Sweep (frame shape zs) t t t t t tops work red green blue
-    → First-turned shape t base rows alongs tops tops' work work₁ red red₁ blue blue₁ → Second-turned shape t red₁ blue₁ green green₁
+    {tops work red green blue tops' work₁ red₁ blue₁ green₁ work₂ work₃ red' green' blue' : List ℤ} {map map₁ map' : List ℕ} → Round base (t - 24) t
+    → Mosaic-kept (frame shape zs) (t + 1) rows alongs → Sweep (frame shape zs) t t t t t tops work red green blue map
+    → First-turned shape t base rows alongs tops tops' work work₁ red red₁ blue blue₁ map map₁
+    → Second-turned shape t red₁ blue₁ green green₁ map₁ map'
     → Enhance-turned shape t base tops' green₁ work₁ work₂ → Diagonal-turned shape t base tops' work₂ work₃
     → Out-turned shape t base Colour.red rows tops' work₃ red₁ red' → Out-turned shape t base Colour.green rows tops' work₃ green₁ green'
     → Out-turned shape t base Colour.blue rows tops' work₃ blue₁ blue'
-    → Sweep (frame shape zs) (t + 1) (t + 1) (t + 1) (t + 1) (t + 1) tops' work₃ red' green' blue'
+    → Sweep (frame shape zs) (t + 1) (t + 1) (t + 1) (t + 1) (t + 1) tops' work₃ red' green' blue' map'
 step-made {zs = zs} o m s a b c d r g l =
     let last = after-diagonal o (after-enhance o (after-second (after-first o m s a) b) c) d in
     let asks = out-asks o m last in

@@ -4,6 +4,7 @@ ghost use mathlib.Core.Path.{_≡_};
 ghost use Prim.Native.Nat.{_+_, _*_, _-_};
 ghost use lib.ListN.{length};
 ghost use Rattle.frame.specs.Sites.{Colour, frame};
+ghost use Rattle.method.specs.Green.{decision-map};
 ghost use Rattle.method.specs.Planes.{plane};
 ghost use Rattle.positions.specs.Taken.{Taken};
 ghost use Rattle.positions.specs.Rings.{Round};
@@ -30,21 +31,23 @@ fn step(
     g: &mut [i32; 2064],
     l: &mut [i32; 2064],
     m: &mut [i32; 2064],
+    codes: &mut [u8; 2048],
     tops: &mut [i32],
     work: &mut [i32],
     red: &mut [i32],
     green: &mut [i32],
     blue: &mut [i32],
+    map: &mut [u8],
 )
-    requires { ⌜ Sweep (frame shape (now mosaic)) t t t t t (now tops) (now work) (now red) (now green) (now blue) ⌝ }
+    requires { ⌜ Sweep (frame shape (now mosaic)) t t t t t (now tops) (now work) (now red) (now green) (now blue) (now map) ⌝ }
     requires { ⌜ (Mosaic-kept (frame shape (now mosaic)) t (now rows) (now alongs)) × (Row-arrays (now v) (now gradients))
-        × (Half-arrays (now n) (now a) (now b) (now d) (now e) (now f) (now g) (now l) (now m)) × (Round base (t - 24) t) ⌝ }
+        × (Half-arrays (now n) (now a) (now b) (now d) (now e) (now f) (now g) (now l) (now m)) × (length (now codes) ≡ 2048) × (Round base (t - 24) t) ⌝ }
     ensures { λ _. ⌜ Sweep (frame shape (now (mosaic .entry))) (t + 1) (t + 1) (t + 1) (t + 1) (t + 1) (now (tops .exit)) (now (work .exit))
-        (now (red .exit)) (now (green .exit)) (now (blue .exit)) ⌝ }
+        (now (red .exit)) (now (green .exit)) (now (blue .exit)) (now (map .exit)) ⌝ }
     ensures { λ _. ⌜ (Mosaic-kept (frame shape (now (mosaic .entry))) (t + 1) (now (rows .exit)) (now (alongs .exit)))
         × (Row-arrays (now (v .exit)) (now (gradients .exit)))
         × (Half-arrays (now (n .exit)) (now (a .exit)) (now (b .exit)) (now (d .exit))
-        (now (e .exit)) (now (f .exit)) (now (g .exit)) (now (l .exit)) (now (m .exit))) ⌝ }
+        (now (e .exit)) (now (f .exit)) (now (g .exit)) (now (l .exit)) (now (m .exit))) × (length (now (codes .exit)) ≡ 2048) ⌝ }
 {
     stage_turns::load_turn(mosaic, shape, t, base, rows, alongs);
     stage_turns::first_turn(
@@ -62,8 +65,9 @@ fn step(
         work,
         red,
         blue,
+        map,
     );
-    stage_turns::second_turn(red, blue, shape, t, a, b, d, e, f, g, green);
+    stage_turns::second_turn(red, blue, shape, t, a, b, d, e, f, g, codes, green, map);
     stage_turns::enhance_turn(tops, shape, work, green, t, base, n, a, b);
     stage_turns::diagonal_turn(tops, shape, work, t, base, n, a, b, d);
     stage_turns::out_turn(
@@ -105,18 +109,21 @@ fn steps(
     g: &mut [i32; 2064],
     l: &mut [i32; 2064],
     m: &mut [i32; 2064],
+    codes: &mut [u8; 2048],
     tops: &mut [i32],
     work: &mut [i32],
     red: &mut [i32],
     green: &mut [i32],
     blue: &mut [i32],
+    map: &mut [u8],
 )
-    requires { ⌜ Sweep (frame shape (now mosaic)) 0 0 0 0 0 (now tops) (now work) (now red) (now green) (now blue) ⌝ }
+    requires { ⌜ Sweep (frame shape (now mosaic)) 0 0 0 0 0 (now tops) (now work) (now red) (now green) (now blue) (now map) ⌝ }
     requires { ⌜ (Mosaic-kept (frame shape (now mosaic)) 0 (now rows) (now alongs)) × (Row-arrays (now v) (now gradients))
-        × (Half-arrays (now n) (now a) (now b) (now d) (now e) (now f) (now g) (now l) (now m)) ⌝ }
+        × (Half-arrays (now n) (now a) (now b) (now d) (now e) (now f) (now g) (now l) (now m)) × (length (now codes) ≡ 2048) ⌝ }
     ensures { λ _. ⌜ (now (red .exit) ≡ plane (frame shape (now (mosaic .entry))) Colour.red)
         × (now (green .exit) ≡ plane (frame shape (now (mosaic .entry))) Colour.green)
-        × (now (blue .exit) ≡ plane (frame shape (now (mosaic .entry))) Colour.blue) ⌝ }
+        × (now (blue .exit) ≡ plane (frame shape (now (mosaic .entry))) Colour.blue)
+        × (now (map .exit) ≡ decision-map (frame shape (now (mosaic .entry)))) ⌝ }
 {
     let h = shape.height;
     let mut t = 0;
@@ -140,33 +147,38 @@ fn steps(
             g,
             l,
             m,
+            codes,
             tops,
             work,
             red,
             green,
             blue,
+            map,
         );
         base = positions::next_base(t, base);
         t += 1;
     }
 }
 
-// The planes of a frame. The local rows are made once; v, gradients and the nine half rows n to m are filled anew by each stage
-// (stage_turns, Scratch).
+// The planes and the map of a frame. The local rows are made once; v, gradients, the nine half rows n to m and codes are filled anew by
+// each stage (stage_turns, Scratch).
 pub fn sweep(
     mosaic: &[u16],
     shape: Shape,
     red: &mut [i32],
     green: &mut [i32],
     blue: &mut [i32],
+    map: &mut [u8],
     work: &mut [i32],
 )
     requires { ⌜ Taken (frame shape (now mosaic)) ⌝ }
     requires { ⌜ (length (now red) ≡ shape .height * shape .width) × (length (now green) ≡ shape .height * shape .width)
-        × (length (now blue) ≡ shape .height * shape .width) × (length (now work) ≡ shape .height * (4 * shape .width)) ⌝ }
+        × (length (now blue) ≡ shape .height * shape .width) × (length (now map) ≡ shape .height * shape .width)
+        × (length (now work) ≡ shape .height * (4 * shape .width)) ⌝ }
     ensures { λ _. ⌜ (now (red .exit) ≡ plane (frame shape (now (mosaic .entry))) Colour.red)
         × (now (green .exit) ≡ plane (frame shape (now (mosaic .entry))) Colour.green)
-        × (now (blue .exit) ≡ plane (frame shape (now (mosaic .entry))) Colour.blue) ⌝ }
+        × (now (blue .exit) ≡ plane (frame shape (now (mosaic .entry))) Colour.blue)
+        × (now (map .exit) ≡ decision-map (frame shape (now (mosaic .entry)))) ⌝ }
 {
     let mut rows = [0u16; 98688];
     let mut alongs = [0u16; 98688];
@@ -181,6 +193,7 @@ pub fn sweep(
     let mut g = [0i32; 2064];
     let mut l = [0i32; 2064];
     let mut m = [0i32; 2064];
+    let mut codes = [0u8; 2048];
     let mut tops = [0i32; 8224];
     steps(
         mosaic,
@@ -198,10 +211,12 @@ pub fn sweep(
         &mut g,
         &mut l,
         &mut m,
+        &mut codes,
         &mut tops,
         work,
         red,
         green,
         blue,
+        map,
     );
 }

@@ -21,14 +21,23 @@ same-length-3 c = search needs
 same-length-4 : tie.Need-same-length-4
 same-length-4 c = search needs
 
+same-length-5 : tie.Need-same-length-5
+same-length-5 c = search needs
+
 returns : tie.Need-returns
 returns c =
-    let developed = c .before .before .before .before .before .develop .ensures in
+    let developed = c .before .before .before .before .before .before .before .develop .ensures in
     let answered = developed .0 in (
       rw answered at (c .export-answer .ensures),
       (
         rw answered at (developed .1 .0),
-        (rw answered at (developed .1 .1 .0), (rw answered at (developed .1 .1 .1 .0), rw answered at (developed .1 .1 .1 .1))),
+        (
+          rw answered at (developed .1 .1 .0),
+          (
+            rw answered at (developed .1 .1 .1 .0),
+            (rw answered at (developed .1 .1 .1 .1 .0), rw answered at (developed .1 .1 .1 .1 .1)),
+          ),
+        ),
       ),
     )
 
@@ -42,4 +51,5 @@ bayer-develop-spec =
     same-length-2
     same-length-3
     same-length-4
+    same-length-5
     returns)

@@ -16,11 +16,11 @@ enum-told c = search needs
 
 run-requires : tie.Need-run-requires
 run-requires c κs =
-    let told = c .before .before .before .before in
+    let told = c .before .before .before .before .before in
     done-ready _ _ (sym (told .before .before .judge .ensures) ∙ told .enum-told .given .1)
 
 returns : tie.Need-returns
-returns c = (sym (c .before .why .given .1) ∙ c .before .before .before .judge .ensures, (refl, (refl, (refl, refl))))
+returns c = (sym (c .before .why .given .1) ∙ c .before .before .before .judge .ensures, (refl, (refl, (refl, (refl, refl)))))
 
 same-length : tie.Need-same-length
 same-length c = search needs
@@ -34,12 +34,15 @@ same-length-3 c = search needs
 same-length-4 : tie.Need-same-length-4
 same-length-4 c = search needs
 
+same-length-5 : tie.Need-same-length-5
+same-length-5 c = search needs
+
 returns-2 : tie.Need-returns-2
 returns-2 c =
-    let ran = c .before .before .before .before in
-    let told = ran .before .before .before .before .before in
+    let ran = c .before .before .before .before .before .before in
+    let told = ran .before .before .before .before .before .before in
     let planes = ran .run .ensures in
-    (sym (told .enum-told .given .1) ∙ told .before .before .judge .ensures, (planes .0, (planes .1 .0, (planes .1 .1, tt))))
+    (sym (told .enum-told .given .1) ∙ told .before .before .judge .ensures, (planes .0, (planes .1 .0, (planes .1 .1 .0, (planes .1 .1 .1, tt)))))
 
 pub develop-spec : {M : Type 1} → statement M
 develop-spec =
@@ -54,4 +57,5 @@ develop-spec =
     same-length-2
     same-length-3
     same-length-4
+    same-length-5
     returns-2)

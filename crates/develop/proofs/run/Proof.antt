@@ -22,8 +22,8 @@ part-sweep-end c = search needs
 
 sweep-requires : tie.Need-sweep-requires
 sweep-requires c κs =
-    let ready = c .before .before .before .before .before .before .before .pre in
-    (ready .taken, (search needs, search needs, search needs, simp (length-take, length-drop) (omega (arith, ready .work-size))))
+    let ready = c .before .before .before .before .before .before .before .before .before .pre in
+    (ready .taken, (search needs, search needs, search needs, search needs, simp (length-take, length-drop) (omega (arith, ready .work-size))))
 
 same-length : tie.Need-same-length
 same-length c = search needs
@@ -37,8 +37,11 @@ same-length-3 c = search needs
 same-length-4 : tie.Need-same-length-4
 same-length-4 c = search needs
 
+same-length-5 : tie.Need-same-length-5
+same-length-5 c = search needs
+
 returns : tie.Need-returns
-returns c = search needs
+returns c = let left = c .before .before .before .before .before .before .sweep .ensures in (left .0, (left .1, (left .2, left .3)))
 
 pub run-spec : {M : Type 1} → statement M
 run-spec =
@@ -54,4 +57,5 @@ run-spec =
     same-length-2
     same-length-3
     same-length-4
+    same-length-5
     returns)

@@ -14,6 +14,9 @@ top-of c = c .before .before .before .before .before
 abbrev seven-of : tie.After-top-line → tie.After-seven-rows
 seven-of c = c .before .before .before .before
 
+abbrev start-of : tie.After-seven-rows → tie.Start
+start-of c = c .before .before .before
+
 first-chroma-requires : tie.Need-first-chroma-requires
 first-chroma-requires c κs = search needs
 
@@ -22,13 +25,13 @@ add-seven-rows c = search needs
 
 seven-rows-requires : tie.Need-seven-rows-requires
 seven-rows-requires c κs =
-    let lent = c .before .pre .0 .holds .mosaic in
+    let lent = c .before .before .pre .0 .holds .mosaic in
     ((lent .taken .tall, lent .taken .low, omega (arith, lent .inside, lent .taken .low)), near-rows lent _ (omega arith) (omega arith))
 
 top-line-requires : tie.Need-top-line-requires
 top-line-requires c κs =
     let seven = c .before .before .before in
-    let start = seven .before .before in
+    let start = start-of seven in
     let some = start .pre .0 in
     let room = start .pre .1 .1 in (
       record { samples = some .samples; holds = some .holds .mosaic },
@@ -39,7 +42,7 @@ gradient-line-requires : tie.Need-gradient-line-requires
 gradient-line-requires c κs =
     let top = c .before .before .before .before in
     let seven = seven-of top in
-    let some = seven .before .before .pre .0 in
+    let some = start-of seven .pre .0 in
     let lent = some .holds .reads .lent in (
       record { samples = some .samples; holds = east-reads (some .holds) (seven .seven-rows .ensures) },
       ((seven .before .first-chroma .ensures .0, lent .work-size, own-record lent .2), top .top-line .ensures .1),
@@ -47,10 +50,10 @@ gradient-line-requires c κs =
 
 trial-line-requires : tie.Need-trial-line-requires
 trial-line-requires c κs =
-    let gradient = c .before .before .before .before .before .before .before .before in
+    let gradient = c .before .before .before .before .before .before .before .before .before in
     let top = top-of gradient in
     let seven = seven-of top in
-    let start = seven .before .before in
+    let start = start-of seven in
     let some = start .pre .0 in
     let lent = some .holds in
     let entries = seven .seven-rows .ensures in
@@ -76,10 +79,13 @@ same-length-3 c = search needs
 same-length-4 : tie.Need-same-length-4
 same-length-4 c = search needs
 
+same-length-5 : tie.Need-same-length-5
+same-length-5 c = search needs
+
 returns : tie.Need-returns
 returns c =
-    let after-trial = c .before .before in
-    let after-gradient = after-trial .before .before .before .before .before .before .before .before .before in
+    let after-trial = c .before .before .before .before in
+    let after-gradient = after-trial .before .before .before .before .before .before .before .before .before .before in
     let after-top = top-of after-gradient in
     let seven = seven-of after-top in
     let trial = after-trial .trial-line .ensures in
@@ -96,14 +102,15 @@ returns c =
               gradients-stored = stored;
               diagonals-stored = trial .0 .row zs reads;
               verticals-stored = trial .1 .0 .row zs reads;
+              codes-stored = trial .1 .1 .0 .row zs reads;
             };
       },
       record {
         v-size = gradient .1 .0;
         gradients-size = gradient .1 .1;
-        n-size = trial .1 .1 .0;
-        a-size = trial .1 .1 .1;
-        b-size = trial .1 .1 .2;
+        n-size = trial .1 .1 .1 .0;
+        a-size = trial .1 .1 .1 .1;
+        b-size = trial .1 .1 .1 .2;
       },
     )
 
@@ -121,4 +128,5 @@ first-line-spec =
     same-length-2
     same-length-3
     same-length-4
+    same-length-5
     returns)

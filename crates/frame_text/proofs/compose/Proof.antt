@@ -44,6 +44,9 @@ slice-aggregate-file-text-7 c = search needs
 slice-aggregate-file-text-8 : tie.Need-slice-aggregate-file-text-8
 slice-aggregate-file-text-8 c = search needs
 
+slice-aggregate-file-text-9 : tie.Need-slice-aggregate-file-text-9
+slice-aggregate-file-text-9 c = search needs
+
 file-text-requires : tie.Need-file-text-requires
 file-text-requires c κs = search needs
 
@@ -52,8 +55,8 @@ same-length-2 c = search needs
 
 returns-3 : tie.Need-returns-3
 returns-3 c =
-    let called = c .before .before .before .before .before .before .before .before .before .before in
-    let tested = called .before .before .before .before .before .before .before .before .before .before in
+    let called = c .before .before .before .before .before .before .before .before .before .before .before in
+    let tested = called .before .before .before .before .before .before .before .before .before .before .before in
     text-put (tested .before .if1 .left) (short-printed _ (tested .if2 .left)) (called .file-text .ensures)
 
 pub compose-spec : {M : Type 1} → statement M
@@ -72,6 +75,7 @@ compose-spec =
     slice-aggregate-file-text-6
     slice-aggregate-file-text-7
     slice-aggregate-file-text-8
+    slice-aggregate-file-text-9
     file-text-requires
     same-length-2
     returns-3)

@@ -33,9 +33,9 @@ planes-text-requires c κs =
     let green = blue .before .before .before .before in
     let red = green .before .before .before .before in
     let told = red .before .before .before in
-    let called = told .before .before .before .before .before .before in
-    let start = called .before .before .before .before .before .before .before in
-    let l : Left _ _ _ _ _ _ _ _ _ _ _ _ = record {
+    let called = told .before .before .before .before .before .before .before .before in
+    let start = called .before .before .before .before .before .before .before .before .before in
+    let l : Left _ _ _ _ _ _ _ _ _ _ _ _ _ = record {
       answered = called .develop .ensures .0;
       done = told .enum-told .given .1;
       red-left = called .develop .ensures .1 .0;
@@ -67,16 +67,16 @@ same-length-4 c = search needs
 same-length-5 : tie.Need-same-length-5
 same-length-5 c = search needs
 
+same-length-6 : tie.Need-same-length-6
+same-length-6 c = search needs
+
 returns : tie.Need-returns
 returns c =
     let matched = c .before .before .before .before .before in
-    let called = matched .before .before .before .before .before .before in
-    let start = called .before .before .before .before .before .before .before in
+    let called = matched .before .before .before .before .before .before .before .before in
+    let start = called .before .before .before .before .before .before .before .before .before in
     put-as (refused-text (start .args .shape) (start .args .mosaic .now) (start .pre .1) _ _ (called .develop .ensures .0) (matched .why .given .1))
     (c .before .before .refusal .ensures)
-
-same-length-6 : tie.Need-same-length-6
-same-length-6 c = search needs
 
 same-length-7 : tie.Need-same-length-7
 same-length-7 c = search needs
@@ -99,15 +99,21 @@ same-length-12 c = search needs
 same-length-13 : tie.Need-same-length-13
 same-length-13 c = search needs
 
+same-length-14 : tie.Need-same-length-14
+same-length-14 c = search needs
+
+same-length-15 : tie.Need-same-length-15
+same-length-15 c = search needs
+
 returns-2 : tie.Need-returns-2
 returns-2 c =
     let blue = c .before .before .before .before .before .before .before .before in
     let green = blue .before .before .before .before in
     let red = green .before .before .before .before in
     let told = red .before .before .before in
-    let called = told .before .before .before .before .before .before in
-    let start = called .before .before .before .before .before .before .before in
-    let l : Left _ _ _ _ _ _ _ _ _ _ _ _ = record {
+    let called = told .before .before .before .before .before .before .before .before in
+    let start = called .before .before .before .before .before .before .before .before .before in
+    let l : Left _ _ _ _ _ _ _ _ _ _ _ _ _ = record {
       answered = called .develop .ensures .0;
       done = told .enum-told .given .1;
       red-left = called .develop .ensures .1 .0;
@@ -139,8 +145,8 @@ developed-text-spec =
     same-length-3
     same-length-4
     same-length-5
-    returns
     same-length-6
+    returns
     same-length-7
     same-length-8
     same-length-9
@@ -148,4 +154,6 @@ developed-text-spec =
     same-length-11
     same-length-12
     same-length-13
+    same-length-14
+    same-length-15
     returns-2)

@@ -13,7 +13,7 @@ use Rattle.frame_text.proofs.file_text.Tie as tie
 small : (c : tie.After-shape) → c .shape .given .0 .0 .height * c .shape .given .0 .0 .width ≤ 1024
 small c =
     let called = c .before .before .before .before in
-    let start = called .before .before .before .before .before in
+    let start = called .before .before .before .before .before .before in
     few (start .args .file .now) (start .args .samples .now) (start .pre .0 .1) _ (sym (c .shape .given .1) ∙ called .read .ensures .0)
 
 read-requires : tie.Need-read-requires
@@ -106,10 +106,19 @@ part-developed-text-start-8 c = search needs
 part-developed-text-end-8 : tie.Need-part-developed-text-end-8
 part-developed-text-end-8 c = let h = small (c .before .before .before .before .before .before .before .before .before .before .before) in search needs
 
+sub-developed-text-9 : tie.Need-sub-developed-text-9
+sub-developed-text-9 c = search needs
+
+part-developed-text-start-9 : tie.Need-part-developed-text-start-9
+part-developed-text-start-9 c = search needs
+
+part-developed-text-end-9 : tie.Need-part-developed-text-end-9
+part-developed-text-end-9 c = let h = small (c .before .before .before .before .before .before .before .before .before .before .before .before) in search needs
+
 developed-text-requires : tie.Need-developed-text-requires
 developed-text-requires c κs =
-    let read = c .before .before .before .before .before .before .before .before .before .before .before .before in
-    let start = read .before .before .before .before .before .before .before .before .before in
+    let read = c .before .before .before .before .before .before .before .before .before .before .before .before .before in
+    let start = read .before .before .before .before .before .before .before .before .before .before in
     ((small read, start .pre .0 .0), parts-lent _ (small read) (start .pre .1))
 
 same-length : tie.Need-same-length
@@ -122,7 +131,7 @@ returns : tie.Need-returns
 returns c =
     let matched = c .before .before .before .before .before in
     let called = matched .before .before .before .before in
-    let start = called .before .before .before .before .before in
+    let start = called .before .before .before .before .before .before in
     put-as
     (refusal-printed (start .args .file .now) (start .args .samples .now) (start .pre .0 .1) _
     (sym (matched .why .given .1) ∙ called .read .ensures .0))
@@ -133,18 +142,18 @@ same-length-3 c = search needs
 
 same-length-4 : tie.Need-same-length-4
 same-length-4 c =
-    let developed = c .before .before .before .before .before .before .before .before .before in
-    let matched = developed .before .before .before .before .before .before .before .before .before .before .before .before .before in
+    let developed = c .before .before .before .before .before .before .before .before .before .before .before in
+    let matched = developed .before .before .before .before .before .before .before .before .before .before .before .before .before .before in
     matched .before .before .before .before .read .kept .1 .0
 
 same-length-5 : tie.Need-same-length-5
-same-length-5 c = c .before .before .before .before .before .before .red .given .1
+same-length-5 c = c .before .before .before .before .before .before .before .before .red .given .1
 
 same-length-6 : tie.Need-same-length-6
-same-length-6 c = search needs
+same-length-6 c = c .before .before .before .before .before .before .before .green .given .1
 
 same-length-7 : tie.Need-same-length-7
-same-length-7 c = search needs
+same-length-7 c = c .before .before .before .before .before .before .blue .given .1
 
 same-length-8 : tie.Need-same-length-8
 same-length-8 c = search needs
@@ -158,12 +167,15 @@ same-length-10 c = search needs
 same-length-11 : tie.Need-same-length-11
 same-length-11 c = search needs
 
+same-length-12 : tie.Need-same-length-12
+same-length-12 c = search needs
+
 returns-2 : tie.Need-returns-2
 returns-2 c =
-    let developed = c .before .before .before .before .before .before .before .before .before in
-    let matched = developed .before .before .before .before .before .before .before .before .before .before .before .before .before in
+    let developed = c .before .before .before .before .before .before .before .before .before .before .before in
+    let matched = developed .before .before .before .before .before .before .before .before .before .before .before .before .before .before in
     let called = matched .before .before .before .before in
-    let start = called .before .before .before .before .before in
+    let start = called .before .before .before .before .before .before in
     put-as
     (frame-printed (start .args .file .now) (start .args .samples .now) (start .pre .0 .1) _ _
     (sym (matched .shape .given .1) ∙ called .read .ensures .0) (called .read .ensures .1))
@@ -203,6 +215,9 @@ file-text-spec =
     sub-developed-text-8
     part-developed-text-start-8
     part-developed-text-end-8
+    sub-developed-text-9
+    part-developed-text-start-9
+    part-developed-text-end-9
     developed-text-requires
     same-length
     same-length-2
@@ -216,4 +231,5 @@ file-text-spec =
     same-length-9
     same-length-10
     same-length-11
+    same-length-12
     returns-2)

@@ -9,36 +9,36 @@ use Rattle.means.specs.Products.{across-below, down-below, values-across
 use Rattle.means.proofs.natural_mean.Statement.{statement}
 use Rattle.means.proofs.natural_mean.Tie as tie
 
-mean-of-zeros-requires : tie.Need-mean-of-zeros-requires
-mean-of-zeros-requires c κs =
-    let s = c .before .before in
-    record {
-      values = weaker (s .pre .value-most) (s .pre .values);
-      some-zero = some-zero (numbers (s .args .t2)) (sym (c .before .paired .ensures) ∙ c .if1 .taken);
-    }
-
-numerator-is : (c : tie.After-paired4) → let s = c .before .before .before .before .before in
+numerator-is : (c : tie.After-paired4) → let s = c .before .before .before .before in
     c .paired4 .result ≡ numerator (numbers (s .args .t1)) (numbers (s .args .t2))
 numerator-is c = c .paired4 .ensures ∙ same-sum _ _ (c .before .before .paired2 .ensures) (c .before .paired3 .ensures)
 
 paired-requires-4 : tie.Need-paired-requires-4
 paired-requires-4 c κs =
-    let s = c .before .before .before .before in
+    let s = c .before .before .before in
     rw (c .before .paired2 .ensures, c .paired3 .ensures) (omega (arith, quotient-below (s .args .t1) (s .args .t2) (s .pre)))
+
+mean-of-zeros-requires : tie.Need-mean-of-zeros-requires
+mean-of-zeros-requires c κs =
+    let d = c .before .before .before .before in
+    let s = d .before in
+    record {
+      values = weaker (s .pre .value-most) (s .pre .values);
+      some-zero = some-zero (numbers (s .args .t2)) (sym (d .paired .ensures) ∙ c .if1 .taken);
+    }
 
 rounded-requires : tie.Need-rounded-requires
 rounded-requires c κs =
-    let s = c .before .before .before .before .before in (
-      above-zero (c .before .before .before .if1 .left),
-      rw (numerator-is c, c .before .before .before .before .paired .ensures) (quotient-below (s .args .t1) (s .args .t2) (s .pre)),
-    )
+    let d = c .before .before .before .before in
+    let s = d .before in
+    (above-zero (c .if1 .left), rw (numerator-is (c .before), d .paired .ensures) (quotient-below (s .args .t1) (s .args .t2) (s .pre)))
 
 returns-2 : tie.Need-returns-2
 returns-2 c =
-    let s = c .before .before .before .before .before .before in
-    let d = c .before .before .before .before .before .paired .ensures in
-    same-round (c .rounded .ensures) (numerator-is (c .before)) d
-    ∙ products-mean (numbers (s .args .t1)) (numbers (s .args .t2)) (rw d at (above-zero (c .before .before .before .before .if1 .left)))
+    let d = c .before .before .before .before .before in
+    let s = d .before in
+    same-round (c .rounded .ensures) (numerator-is (c .before .before)) (d .paired .ensures)
+    ∙ products-mean (numbers (s .args .t1)) (numbers (s .args .t2)) (rw (d .paired .ensures) at (above-zero (c .before .if1 .left)))
 
 pub natural-mean-spec : {M : Type 1} → statement M
 natural-mean-spec = tie.close (tie.spec
@@ -51,14 +51,14 @@ natural-mean-spec = tie.close (tie.spec
     (λ c. search needs)
     (λ c. search needs)
     (λ c κs. omega (arith, quotient-below (c .args .t1) (c .args .t2) (c .pre)))
+    (λ c. search needs)
+    (λ c. search needs)
+    (λ c κs. let s = c .before in values-across-below (s .args .t1) (s .args .t2) (s .pre))
+    (λ c. search needs)
+    (λ c. search needs)
+    (λ c κs. let s = c .before .before in values-down-below (s .args .t1) (s .args .t2) (s .pre))
+    paired-requires-4
     mean-of-zeros-requires
     (λ c. search needs)
-    (λ c. search needs)
-    (λ c. search needs)
-    (λ c κs. let s = c .before .before in values-across-below (s .args .t1) (s .args .t2) (s .pre))
-    (λ c. search needs)
-    (λ c. search needs)
-    (λ c κs. let s = c .before .before .before in values-down-below (s .args .t1) (s .args .t2) (s .pre))
-    paired-requires-4
     rounded-requires
     returns-2)

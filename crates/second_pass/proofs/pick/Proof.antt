@@ -1,50 +1,37 @@
--- `second_pass::pick` meets its contract. Each way out is one case of `picked`. Assumes nothing.
-use mathlib.Core.Path.{_≡_, _∙_}
-use mathlib.Core.Bool.{false, _&&_}
-use mathlib.Core.Logic.{⊎-elim}
-use lib.Signed.{ltZ}
+-- `second_pass::pick` meets its contract. What is taken by a resolution is picked by the sums (`taken-picked`). Assumes nothing.
+use mathlib.Core.Path.{refl, _∙_, ap}
+use mathlib.Core.Bool.{cond}
+use Prim.Native.Nat.{ℕ}
+use lib.Dec.{ltb}
 use mir.Facts.{toZ-ofZ}
-use Rattle.toolkit.specs.BoundRules.{vals, itypes, told}
-use Rattle.second_pass.specs.Picking.{both-below, first-not, second-not, picked-first, picked-second, picked-third}
+use Rattle.half_rows.specs.Reading.{as-read}
+use borrow.Author.Needs.{needs}
+use Rattle.second_pass.specs.Picking.{picked-read}
+use Rattle.second_pass.specs.Resolving.{taken-picked}
 use Rattle.second_pass.proofs.pick.Statement.{statement}
 use Rattle.second_pass.proofs.pick.Tie as tie
 
+resolution-requires : tie.Need-resolution-requires
+resolution-requires c κs = search needs
+
+taken-requires : tie.Need-taken-requires
+taken-requires c κs = search needs
+
+resolve-requires : tie.Need-resolve-requires
+resolve-requires c κs = search needs
+
 returns : tie.Need-returns
 returns c =
-    let a = c .before .before .args in
-    toZ-ofZ (c .before .before .fits .x)
-    ∙ picked-first (a .fh) (a .fv) (a .fd) (a .x) (a .y) (a .z)
-    (both-below (told (c .before .if1 .taken) (search (vals, itypes) depth 30) tt) (told (c .if2 .taken) (search (vals, itypes) depth 30) tt))
-
--- FH is not below both others
-module _ (c : tie.Joined1) where
-  across-not : (ltZ (c .before .args .fh) (c .before .args .fv) && ltZ (c .before .args .fh) (c .before .args .fd)) ≡ false
-  across-not =
-      let a = c .before .args in
-      ⊎-elim (λ w. second-not (ltZ (a .fh) (a .fv)) (told (w .1 .left) (search (vals, itypes) depth 30) tt))
-      (λ w. first-not (ltZ (a .fh) (a .fd)) (told (w .left) (search (vals, itypes) depth 30) tt)) (c .if1 .came)
-
-returns-2 : tie.Need-returns-2
-returns-2 c =
-    let a = c .before .before .before .args in
-    toZ-ofZ (c .before .before .before .fits .y)
-    ∙ picked-second (a .fh) (a .fv) (a .fd) (a .x) (a .y) (a .z) (across-not (c .before .before))
-    (both-below (told (c .before .if3 .taken) (search (vals, itypes) depth 30) tt) (told (c .if4 .taken) (search (vals, itypes) depth 30) tt))
-
--- FV is not below both others
-module _ (c : tie.Joined3) where
-  down-not : (ltZ (c .before .before .args .fv) (c .before .before .args .fh)
-      && ltZ (c .before .before .args .fv) (c .before .before .args .fd)) ≡ false
-  down-not =
-      let a = c .before .before .args in
-      ⊎-elim (λ w. second-not (ltZ (a .fv) (a .fh)) (told (w .1 .left) (search (vals, itypes) depth 30) tt))
-      (λ w. first-not (ltZ (a .fv) (a .fd)) (told (w .left) (search (vals, itypes) depth 30) tt)) (c .if3 .came)
-
-returns-3 : tie.Need-returns-3
-returns-3 c =
-    let a = c .before .before .args in
-    toZ-ofZ (c .before .before .fits .z)
-    ∙ picked-third (a .fh) (a .fv) (a .fd) (a .x) (a .y) (a .z) (across-not (c .before)) (down-not c)
+    let at-taken = c .before in
+    let s = at-taken .before .before in
+    let a = s .args in
+    let f = s .fits in
+    let second = at-taken .before .resolution .ensures in (
+      as-read (at-taken .taken .ok) ∙ at-taken .taken .ensures ∙ taken-picked _ _ _ _ _ _ second
+          ∙ picked-read (toZ-ofZ (f .fh)) (toZ-ofZ (f .fv)) (toZ-ofZ (f .fd)) (toZ-ofZ (f .x)) (toZ-ofZ (f .y)) (toZ-ofZ (f .z)),
+      c .resolve .ensures ∙ ap (λ (n : ℕ). cond (ltb (a .first) 4) (a .first) n)
+          (second ∙ picked-read (toZ-ofZ (f .fh)) (toZ-ofZ (f .fv)) (toZ-ofZ (f .fd)) refl refl refl),
+    )
 
 pub pick-spec : {M : Type 1} → statement M
-pick-spec = tie.close (tie.spec returns returns-2 returns-3)
+pick-spec = tie.close (tie.spec resolution-requires taken-requires resolve-requires returns)

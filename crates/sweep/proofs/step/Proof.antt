@@ -13,16 +13,16 @@ use Rattle.sweep.proofs.step.Tie as tie
 -- ---- from a place to the call before it
 
 abbrev start-of : tie.After-load-turn → tie.Start
-start-of c = c .before .before .before .before
+start-of c = c .before .before .before .before .before
 
 abbrev load-of : tie.After-first-turn → tie.After-load-turn
-load-of c = c .before .before .before .before .before .before .before .before .before .before .before .before
+load-of c = c .before .before .before .before .before .before .before .before .before .before .before .before .before
 
 abbrev first-of : tie.After-second-turn → tie.After-first-turn
-first-of c = c .before .before .before .before .before .before .before .before .before .before .before .before .before .before
+first-of c = c .before .before .before .before .before .before .before .before .before .before .before .before .before .before .before .before .before .before
 
 abbrev second-of : tie.After-enhance-turn → tie.After-second-turn
-second-of c = c .before .before .before .before .before .before .before .before
+second-of c = c .before .before .before .before .before .before .before .before .before .before
 
 abbrev enhance-of : tie.After-diagonal-turn → tie.After-enhance-turn
 enhance-of c = c .before .before .before .before .before .before .before .before
@@ -38,18 +38,18 @@ mosaic-of c = after-load (start-of c .pre .0 .buffers .taken) (start-of c .pre .
 
 load-turn-requires : tie.Need-load-turn-requires
 load-turn-requires c κs =
-    let start = c .before .before .before .pre in
-    (start .0 .buffers .taken, (round-part (start .1 .3) (omega arith) (omega arith), start .1 .0 .kept .size, start .1 .0 .sums .size))
+    let start = c .before .before .before .before .pre in
+    (start .0 .buffers .taken, (round-part (start .1 .4) (omega arith) (omega arith), start .1 .0 .kept .size, start .1 .0 .sums .size))
 
 first-turn-requires : tie.Need-first-turn-requires
 first-turn-requires c κs =
-    let load = c .before .before .before .before .before .before .before .before .before .before .before in
+    let load = c .before .before .before .before .before .before .before .before .before .before .before .before in
     let start = start-of load .pre in
     let rows = start .1 .1 in
     let sizes = start .1 .2 in (
-      record { samples = _; holds = first-asks (start .1 .3) (mosaic-of load) (start .0) },
+      record { samples = _; holds = first-asks (start .1 .4) (mosaic-of load) (start .0) },
       (
-        (start .0 .red-size, start .0 .blue-size),
+        (start .0 .red-size, start .0 .blue-size, start .0 .map-size),
         record {
           v-size = rows .v-size;
           gradients-size = rows .gradients-size;
@@ -62,23 +62,23 @@ first-turn-requires c κs =
 
 second-turn-requires : tie.Need-second-turn-requires
 second-turn-requires c κs =
-    let first = c .before .before .before .before .before .before .before .before .before .before .before .before .before in
+    let first = c .before .before .before .before .before .before .before .before .before .before .before .before .before .before .before .before .before in
     let start = start-of (load-of first) .pre in
     let made = first .first-turn .ensures in
     let sizes = start .1 .2 in (
-      record { samples = _; holds = second-asks (after-first (start .1 .3) (mosaic-of (load-of first)) (start .0) (made .0)) },
-      (start .0 .green-size, (made .1 .a-size, made .1 .b-size, sizes .d-size, sizes .e-size, sizes .f-size, sizes .g-size)),
+      record { samples = _; holds = second-asks (after-first (start .1 .4) (mosaic-of (load-of first)) (start .0) (made .0)) },
+      (start .0 .green-size, (made .1 .a-size, made .1 .b-size, sizes .d-size, sizes .e-size, sizes .f-size, sizes .g-size, start .1 .3)),
     )
 
 enhance-turn-requires : tie.Need-enhance-turn-requires
 enhance-turn-requires c κs =
-    let second = c .before .before .before .before .before .before .before in
+    let second = c .before .before .before .before .before .before .before .before .before in
     let first = first-of second in
     let start = start-of (load-of first) .pre in
-    let begun = after-first (start .1 .3) (mosaic-of (load-of first)) (start .0) (first .first-turn .ensures .0) in
+    let begun = after-first (start .1 .4) (mosaic-of (load-of first)) (start .0) (first .first-turn .ensures .0) in
     let now = after-second begun (second .second-turn .ensures .0) in
     let sizes = second .second-turn .ensures .1 in
-    (record { samples = _; holds = enhance-asks (start .1 .3) now }, (first .first-turn .ensures .1 .n-size, sizes .0, sizes .1))
+    (record { samples = _; holds = enhance-asks (start .1 .4) now }, (first .first-turn .ensures .1 .n-size, sizes .0, sizes .1))
 
 diagonal-turn-requires : tie.Need-diagonal-turn-requires
 diagonal-turn-requires c κs =
@@ -86,10 +86,10 @@ diagonal-turn-requires c κs =
     let second = second-of enhance in
     let first = first-of second in
     let start = start-of (load-of first) .pre in
-    let begun = after-first (start .1 .3) (mosaic-of (load-of first)) (start .0) (first .first-turn .ensures .0) in
+    let begun = after-first (start .1 .4) (mosaic-of (load-of first)) (start .0) (first .first-turn .ensures .0) in
     let now = after-second begun (second .second-turn .ensures .0) in
     let sizes = enhance .enhance-turn .ensures .1 in (
-      record { samples = _; holds = diagonal-asks (start .1 .3) (after-enhance (start .1 .3) now (enhance .enhance-turn .ensures .0)) },
+      record { samples = _; holds = diagonal-asks (start .1 .4) (after-enhance (start .1 .4) now (enhance .enhance-turn .ensures .0)) },
       (sizes .0, sizes .1, sizes .2, second .second-turn .ensures .1 .2),
     )
 
@@ -101,12 +101,12 @@ out-turn-requires c κs =
     let first = first-of second in
     let start = start-of (load-of first) .pre in
     let mosaic = mosaic-of (load-of first) in
-    let now = after-second (after-first (start .1 .3) mosaic (start .0) (first .first-turn .ensures .0)) (second .second-turn .ensures .0) in
-    let enhanced = after-enhance (start .1 .3) now (enhance .enhance-turn .ensures .0) in
-    let last = after-diagonal (start .1 .3) enhanced (diagonal .diagonal-turn .ensures .0) in
+    let now = after-second (after-first (start .1 .4) mosaic (start .0) (first .first-turn .ensures .0)) (second .second-turn .ensures .0) in
+    let enhanced = after-enhance (start .1 .4) now (enhance .enhance-turn .ensures .0) in
+    let last = after-diagonal (start .1 .4) enhanced (diagonal .diagonal-turn .ensures .0) in
     let sizes = diagonal .diagonal-turn .ensures .1 in
     let sums = second .second-turn .ensures .1 in (
-      record { samples = _; holds = out-asks (start .1 .3) mosaic last },
+      record { samples = _; holds = out-asks (start .1 .4) mosaic last },
       (
         (last .red-size, last .green-size, last .blue-size),
         record {
@@ -137,10 +137,15 @@ returns c =
     let first = first-of second in
     let start = start-of (load-of first) in
     let rows = first .first-turn .ensures .1 in (
-      step-made (start .pre .1 .3) (mosaic-of (load-of first)) (start .pre .0) (first .first-turn .ensures .0) (second .second-turn .ensures .0)
+      step-made (start .pre .1 .4) (mosaic-of (load-of first)) (start .pre .0) (first .first-turn .ensures .0) (second .second-turn .ensures .0)
           (enhance .enhance-turn .ensures .0) (diagonal .diagonal-turn .ensures .0) (out .out-turn .ensures .0) (out .out-turn .ensures .1 .0)
           (out .out-turn .ensures .1 .1 .0),
-      (mosaic-of (load-of first), record { v-size = rows .v-size; gradients-size = rows .gradients-size }, out .out-turn .ensures .1 .1 .1),
+      (
+        mosaic-of (load-of first),
+        record { v-size = rows .v-size; gradients-size = rows .gradients-size },
+        out .out-turn .ensures .1 .1 .1,
+        second .second-turn .ensures .1 .6,
+      ),
     )
 
 same-length : tie.Need-same-length
@@ -158,6 +163,9 @@ same-length-4 c = returns c .0 .green-size ∙ sym (entry-of c .pre .0 .green-si
 same-length-5 : tie.Need-same-length-5
 same-length-5 c = returns c .0 .blue-size ∙ sym (entry-of c .pre .0 .blue-size)
 
+same-length-6 : tie.Need-same-length-6
+same-length-6 c = returns c .0 .map-size ∙ sym (entry-of c .pre .0 .map-size)
+
 pub step-spec : {M : Type 1} → statement M
 step-spec =
     tie.close
@@ -173,4 +181,5 @@ step-spec =
     same-length-3
     same-length-4
     same-length-5
+    same-length-6
     returns)

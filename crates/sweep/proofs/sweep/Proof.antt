@@ -7,19 +7,20 @@ use Rattle.sweep.proofs.sweep.Statement.{statement}
 use Rattle.sweep.proofs.sweep.Tie as tie
 
 abbrev start-of : tie.After-tops → tie.Start
-start-of c = c .before .before .before .before .before .before .before .before .before .before .before .before .before .before .before
+start-of c = c .before .before .before .before .before .before .before .before .before .before .before .before .before .before .before .before .before
 
 slice-aggregate-steps : tie.Need-slice-aggregate-steps
 slice-aggregate-steps c = search needs
 
 steps-requires : tie.Need-steps-requires
 steps-requires c κs =
-    let start = start-of (c .before .before .before .before) .pre in (
-      sweep-none (record { taken = start .0; tops-size = refl; work-size = start .1 .3 }) (start .1 .0) (start .1 .1) (start .1 .2),
+    let start = start-of (c .before .before .before .before .before) .pre in (
+      sweep-none (record { taken = start .0; tops-size = refl; work-size = start .1 .4 }) (start .1 .0) (start .1 .1) (start .1 .2) (start .1 .3),
       (
         mosaic-none refl refl,
         record { v-size = refl; gradients-size = refl },
         record { n-size = refl; a-size = refl; b-size = refl; d-size = refl; e-size = refl; f-size = refl; g-size = refl; l-size = refl; m-size = refl },
+        refl,
       ),
     )
 
@@ -35,6 +36,9 @@ same-length-3 c = search needs
 same-length-4 : tie.Need-same-length-4
 same-length-4 c = search needs
 
+same-length-5 : tie.Need-same-length-5
+same-length-5 c = search needs
+
 returns : tie.Need-returns
 returns c = search needs
 
@@ -48,4 +52,5 @@ sweep-spec =
     same-length-2
     same-length-3
     same-length-4
+    same-length-5
     returns)
