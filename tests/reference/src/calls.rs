@@ -1,4 +1,4 @@
-//! Document 01, "Calls and returns": develop and clamp, with every refusal.
+//! Document 01, "Calls and returns": develop and clamp, with every refusal; develop fills the map of document 02, A1, too.
 
 use crate::planes::planes;
 use crate::sites::Frame;
@@ -55,7 +55,7 @@ pub(crate) fn test_samples(mosaic: &[u16]) -> Result<(), Refusal> {
     }
 }
 
-/// Fills the three planes from the mosaic. The work buffer is only measured.
+/// Fills the three planes and the decision map from the mosaic. The work buffer is only measured.
 #[allow(clippy::too_many_arguments)] // the document lends all of these
 pub fn develop(
     width: usize,
@@ -65,6 +65,7 @@ pub fn develop(
     red: &mut [i32],
     green: &mut [i32],
     blue: &mut [i32],
+    map: &mut [u8],
     work: &mut [i32],
 ) -> Result<(), Refusal> {
     test_frame(width, height, phase, mosaic)?;
@@ -72,7 +73,7 @@ pub fn develop(
     if red.len() != count || green.len() != count || blue.len() != count {
         return refused(4, 0);
     }
-    if work.len() < 4 * count {
+    if map.len() != count || work.len() < 4 * count {
         return refused(4, 0);
     }
     test_samples(mosaic)?;
@@ -87,6 +88,7 @@ pub fn develop(
         green[site] = developed.green[site] as i32;
         blue[site] = developed.blue[site] as i32;
     }
+    map.copy_from_slice(&developed.map);
     Ok(())
 }
 

@@ -1,4 +1,4 @@
-//! Document 01, "Green": the estimates and the two passes, in eighths.
+//! Document 01, "Green": the estimates and the two passes, in eighths; document 02, A1: how each green was decided.
 
 use crate::gradients::gradients;
 use crate::sites::{Colour, Frame, PerSite};
@@ -15,6 +15,25 @@ pub enum Outcome {
     StrongAcross,
     StrongDown,
     Weak,
+}
+
+/// How a site's green was decided. Its number is the site's entry in the decision map.
+#[derive(Clone, Copy, Debug, PartialEq, Eq)]
+pub enum Decision {
+    Measured = 0,
+    Equal = 1,
+    StrongAcross = 2,
+    StrongDown = 3,
+    WeakAcross = 4,
+    WeakDown = 5,
+    WeakToMean = 6,
+}
+
+/// A site's green in eighths, and how it was decided.
+#[derive(Clone, Copy, Debug, PartialEq, Eq)]
+pub struct Green {
+    pub eighths: i64,
+    pub decision: Decision,
 }
 
 /// A red or blue site after the first pass.
@@ -117,12 +136,32 @@ pub fn choice(sums: [i64; 3]) -> usize {
     }
 }
 
-/// The green of both passes, in eighths, at every red or blue site.
-pub fn green(frame: &Frame) -> PerSite<Option<i64>> {
+/// The decision at a red or blue site and the estimate that it takes: the first pass's or, where that is weak, the second's.
+fn decided(outcome: Outcome, sums: impl FnOnce() -> [i64; 3]) -> (Decision, usize) {
+    match outcome {
+        Outcome::Equal => (Decision::Equal, D),
+        Outcome::StrongAcross => (Decision::StrongAcross, H),
+        Outcome::StrongDown => (Decision::StrongDown, V),
+        Outcome::Weak => match choice(sums()) {
+            H => (Decision::WeakAcross, H),
+            V => (Decision::WeakDown, V),
+            _ => (Decision::WeakToMean, D),
+        },
+    }
+}
+
+/// The green of every site and how it was decided; a green site's is measured.
+pub fn green(frame: &Frame) -> PerSite<Green> {
     let sites = first_pass(frame);
-    PerSite::form(frame, |row, column| {
-        let site = sites.at(row, column)?;
-        let second = || site.estimates[choice(sums(&sites, row, column))];
-        Some(site.green().unwrap_or_else(second))
+    PerSite::form(frame, |row, column| match sites.at(row, column) {
+        None => Green {
+            eighths: 8 * frame.sample(row, column),
+            decision: Decision::Measured,
+        },
+        Some(site) => {
+            let (decision, taken) = decided(site.outcome, || sums(&sites, row, column));
+            let eighths = site.estimates[taken];
+            Green { eighths, decision }
+        }
     })
 }

@@ -1,18 +1,19 @@
-//! Document 01, "Differences and planes": from the greens to the three planes.
+//! Document 01, "Differences and planes": from the greens to the three planes, and the decision map of document 02, A1.
 
 use crate::gradients::gradients;
-use crate::green::green;
+use crate::green::{green, Decision, Green};
 use crate::sites::{Colour, Frame, PerSite};
 
 /// Differences in quarters or eighths at the red and blue sites; nothing at the green ones.
 type Differences = PerSite<Option<i64>>;
 
-/// The numbers of the three planes, in raster order, unclamped.
+/// The numbers of the three planes, unclamped, and the codes of the decision map, in raster order.
 #[derive(Clone, Debug, PartialEq, Eq)]
 pub struct Planes {
     pub red: Vec<i64>,
     pub green: Vec<i64>,
     pub blue: Vec<i64>,
+    pub map: Vec<u8>,
 }
 
 /// round(n/d) is the nearest whole number, halves upward; d is above 0.
@@ -50,11 +51,12 @@ pub fn whole(quarters: i64) -> i64 {
 }
 
 /// Enhancement: the final differences in quarters.
-fn enhanced(frame: &Frame) -> Differences {
-    let greens = green(frame);
+fn enhanced(frame: &Frame, greens: &PerSite<Green>) -> Differences {
     // D = green − 8·X
     let differences = PerSite::form(frame, |row, column| {
-        Some(greens.at(row, column)? - 8 * frame.sample(row, column))
+        let Green { eighths, decision } = greens.at(row, column);
+        let difference = eighths - 8 * frame.sample(row, column);
+        (decision != Decision::Measured).then_some(difference)
     });
     PerSite::form(frame, |row, column| {
         let difference = differences.at(row, column)?;
@@ -119,15 +121,17 @@ fn green_minus(wanted: Colour, frame: &Frame, finals: &Differences) -> PerSite<i
     })
 }
 
-/// The three planes of a frame.
+/// The three planes and the decision map of a frame.
 pub fn planes(frame: &Frame) -> Planes {
-    let finals = enhanced(frame);
+    let greens = green(frame);
+    let finals = enhanced(frame, &greens);
     let minus_red = green_minus(Colour::Red, frame, &finals);
     let minus_blue = green_minus(Colour::Blue, frame, &finals);
     let mut planes = Planes {
         red: Vec::new(),
         green: Vec::new(),
         blue: Vec::new(),
+        map: Vec::new(),
     };
     for row in 0..frame.height as i64 {
         for column in 0..frame.width as i64 {
@@ -146,6 +150,7 @@ pub fn planes(frame: &Frame) -> Planes {
             planes.red.push(red);
             planes.green.push(green);
             planes.blue.push(blue);
+            planes.map.push(greens.at(row, column).decision as u8);
         }
     }
     planes

@@ -35,6 +35,7 @@ fn colours(input: &[u8]) -> Result<String, Refusal> {
         &mut red,
         &mut green,
         &mut blue,
+        &mut vec![0; count],
         &mut vec![0; 4 * count],
     )?;
     let [red, green, blue] = [held(&red)?, held(&green)?, held(&blue)?];

@@ -1,4 +1,4 @@
-//! Document 01, "What demand 3 compares": the four changes and the matching point.
+//! Document 01, "What demand 3 compares": the four changes and the matching point; document 02, A1: the map's code there.
 
 use crate::sites::Frame;
 
@@ -92,10 +92,27 @@ pub fn matching_point(frame: &Frame, changes: &[Change], point: Point) -> Point 
     point
 }
 
+/// Whether a change stands in the list an odd number of times.
+fn an_odd_number(changes: &[Change], counted: Change) -> bool {
+    let found = changes.iter().filter(|&&change| change == counted);
+    found.count() % 2 == 1
+}
+
 /// Whether the list trades the names red and blue an odd number of times.
 pub fn trades_an_odd_number(changes: &[Change]) -> bool {
-    let trades = changes
-        .iter()
-        .filter(|&&change| change == Change::TradeRedAndBlue);
-    trades.count() % 2 == 1
+    an_odd_number(changes, Change::TradeRedAndBlue)
+}
+
+/// The code that the matching point of a site with this code has: a transposition exchanges 2 with 3 and 4 with 5.
+pub fn matching_code(changes: &[Change], code: u8) -> u8 {
+    if !an_odd_number(changes, Change::Transpose) {
+        return code;
+    }
+    match code {
+        2 => 3,
+        3 => 2,
+        4 => 5,
+        5 => 4,
+        kept => kept,
+    }
 }

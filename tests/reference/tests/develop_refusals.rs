@@ -16,6 +16,7 @@ impl Call for Lent {
             &mut self.red,
             &mut self.green,
             &mut self.blue,
+            &mut self.map,
             &mut self.work,
         ))
     }
@@ -79,9 +80,26 @@ fn refusal_4_for_the_length_of_another_buffer() {
             must_refuse(with(&valid, |lent| lent.red.resize(length, 7)), 4, 0);
             must_refuse(with(&valid, |lent| lent.green.resize(length, 7)), 4, 0);
             must_refuse(with(&valid, |lent| lent.blue.resize(length, 7)), 4, 0);
+            must_refuse(with(&valid, |lent| lent.map.resize(length, 7)), 4, 0);
         }
         for length in [0, count, 4 * count - 1] {
             must_refuse(with(&valid, |lent| lent.work.resize(length, 7)), 4, 0);
+        }
+    }
+}
+
+/// The map's length is tested after the mosaic's and before the samples.
+#[test]
+fn the_place_of_the_map_among_the_tests() {
+    let mut generator = Generator::new(59);
+    for _ in 0..60 {
+        let mut lent = Lent::small(&mut generator);
+        let count = lent.mosaic.len();
+        let length = generator.one_of(&[0, 1, count - 1, count + 1, 4 * count]);
+        lent.map.resize(length, 7);
+        for number in [5, 3, 2, 1] {
+            lent.spoil(number, &mut generator);
+            must_refuse(lent.clone(), number.min(4), 0);
         }
     }
 }

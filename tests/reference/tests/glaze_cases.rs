@@ -31,6 +31,8 @@ fn k1_the_document_frame() {
         red: vec![100, 90, 111, 100],
         green: vec![51, 40, 61, 51],
         blue: vec![200, 190, 211, 200],
+        // all gradients of a frame of 2 by 2 are 0
+        map: vec![1, 0, 0, 1],
     };
     assert_eq!(developed(&frame), planes);
 }
@@ -89,11 +91,12 @@ fn k10_eastbound_gradients_at_an_edge() {
     assert_eq!([0, 2, 3].map(eastbound), [3_200, 9_600, 9_600]);
 }
 
+/// And every red and blue site is strong down: h is above v = 0.
 #[test]
 fn k10_planes_equal_the_mosaic_in_every_phase() {
     for phase in 0..4 {
         let frame = edge_frame(phase);
-        assert_eq!(developed(&frame), grey(&frame), "phase {phase}");
+        assert_eq!(developed(&frame), grey(&frame, 3), "phase {phase}");
     }
 }
 

@@ -1,4 +1,4 @@
-//! The larger frame of the case table (crates/cases, FrameCases): its planes, and what its sites are.
+//! The larger frame of the case table (crates/cases, FrameCases): its planes and its map, and what its sites are.
 
 mod common;
 
@@ -25,9 +25,9 @@ fn larger_frame() -> Frame {
 }
 
 #[test]
-fn its_planes_are_those_of_the_table() {
+fn its_planes_and_its_map_are_those_of_the_table() {
     #[rustfmt::skip]
-    let planes = Developed {
+    let expected = Developed {
         red: vec![
             -276, 1108, 1029, -16, 568, 705,
             0, 769, 1000, 5, 300, -26,
@@ -52,8 +52,16 @@ fn its_planes_are_those_of_the_table() {
             1, 0, 64, 0, 302, 1023,
             -164, 25, 257, 202, 551, 327,
         ],
+        map: vec![
+            0, 3, 0, 6, 0, 1,
+            3, 0, 3, 0, 6, 0,
+            0, 5, 0, 6, 0, 5,
+            5, 0, 4, 0, 6, 0,
+            0, 6, 0, 4, 0, 5,
+            4, 0, 4, 0, 2, 0,
+        ],
     };
-    assert_eq!(developed(&larger_frame()), planes);
+    assert_eq!(developed(&larger_frame()), expected);
 }
 
 #[test]

@@ -2,9 +2,9 @@
 
 mod common;
 
-use common::{developed, frame, frame_of_sides, Generator, Kind, KINDS};
+use common::{developed, frame, frame_of_sides, grey, Generator, Kind, KINDS};
 use reference::gradients::gradients;
-use reference::green::{choice, first_pass, Outcome, D, H, V};
+use reference::green::{choice, D, H, V};
 use reference::sites::{colour, reflect, Colour, Frame};
 
 /// The frame with as many reflected rows and columns around it as `margin` says.
@@ -31,16 +31,29 @@ fn a_border_of_reflected_samples_changes_nothing() {
     for turn in 0..240 {
         let inner = frame(&mut generator, KINDS[turn % KINDS.len()], 9);
         let outer = surrounded(&inner, 16);
-        let (inner_planes, outer_planes) = (developed(&inner), developed(&outer));
+        let (within, around) = (developed(&inner), developed(&outer));
         for row in 0..inner.height {
             for column in 0..inner.width {
                 let site = row * inner.width + column;
                 let same = (row + 16) * outer.width + column + 16;
-                assert_eq!(inner_planes.red[site], outer_planes.red[same]);
-                assert_eq!(inner_planes.green[site], outer_planes.green[same]);
-                assert_eq!(inner_planes.blue[site], outer_planes.blue[same]);
+                assert_eq!(within.red[site], around.red[same]);
+                assert_eq!(within.green[site], around.green[same]);
+                assert_eq!(within.blue[site], around.blue[same]);
+                assert_eq!(within.map[site], around.map[same]);
             }
         }
+    }
+}
+
+/// The code of a red or blue site on a ramp of these steps, where all r_k are equal: h is 32·|along|, v 32·|down|.
+fn ramp_code(down: i64, along: i64) -> u8 {
+    let (h, v) = (along.abs(), down.abs());
+    if h == v {
+        1
+    } else if 10 * h.max(v) > 17 * h.min(v) {
+        2 + u8::from(v < h)
+    } else {
+        6
     }
 }
 
@@ -57,7 +70,7 @@ fn a_ramp_with_a_constant_for_each_colour() {
         let phase = turn % 4;
         let sites = (0..36 * 36).map(|site| (site / 36, site % 36));
         let samples = sites.map(|(i, j)| value(colour(phase, i, j), i, j) as u16);
-        let planes = developed(&Frame {
+        let found = developed(&Frame {
             width: 36,
             height: 36,
             phase,
@@ -65,15 +78,20 @@ fn a_ramp_with_a_constant_for_each_colour() {
         });
         for (row, column) in (14..22).flat_map(|row| (14..22).map(move |column| (row, column))) {
             let site = (row * 36 + column) as usize;
-            let numbers = [planes.red[site], planes.green[site], planes.blue[site]];
+            let numbers = [found.red[site], found.green[site], found.blue[site]];
             let colours = [Colour::Red, Colour::Green, Colour::Blue];
             let expected = colours.map(|colour| value(colour, row, column) as i32);
             assert_eq!(numbers, expected, "({row},{column}) phase {phase}");
+            let code = match colour(phase, row, column) {
+                Colour::Green => 0,
+                _ => ramp_code(down, along),
+            };
+            assert_eq!(found.map[site], code, "({row},{column}) by {down}, {along}");
         }
     }
 }
 
-/// Straight stripes with a gradient across them everywhere give planes equal to the mosaic.
+/// Straight stripes with a gradient across them everywhere give planes equal to the mosaic, and are strong along themselves.
 #[test]
 fn stripes_are_returned() {
     let mut generator = Generator::new(32);
@@ -100,9 +118,8 @@ fn stripes_are_returned() {
             continue;
         }
         compared += 1;
-        let mosaic: Vec<i32> = frame.samples.iter().map(|&z| z.into()).collect();
-        let planes = developed(&frame);
-        assert_eq!([&planes.red, &planes.green, &planes.blue], [&mosaic; 3]);
+        let along = if of_rows { 2 } else { 3 };
+        assert_eq!(developed(&frame), grey(&frame, along));
     }
     assert!(compared > 400, "{compared}");
 }
@@ -112,9 +129,7 @@ fn flat_frames_are_returned() {
     let mut generator = Generator::new(33);
     for _ in 0..200 {
         let frame = frame(&mut generator, Kind::Flat, 12);
-        let mosaic: Vec<i32> = frame.samples.iter().map(|&z| z.into()).collect();
-        let planes = developed(&frame);
-        assert_eq!([&planes.red, &planes.green, &planes.blue], [&mosaic; 3]);
+        assert_eq!(developed(&frame), grey(&frame, 1));
     }
 }
 
@@ -148,13 +163,10 @@ fn a_side_of_two_has_no_weak_site() {
         let long = generator.size(2, 12);
         let (width, height) = if turn % 2 == 0 { (2, long) } else { (long, 2) };
         let frame = frame_of_sides(&mut generator, Kind::Random, width, height);
-        let sites = first_pass(&frame);
-        for row in 0..height as i64 {
-            for column in 0..width as i64 {
-                let outcome = sites.at(row, column).map(|site| site.outcome);
-                assert_ne!(outcome, Some(Outcome::Weak));
-            }
-        }
+        // h = 0 where W is 2, v = 0 where H is
+        let codes = [0, 1, if width == 2 { 2 } else { 3 }];
+        let map = developed(&frame).map;
+        assert!(map.iter().all(|code| codes.contains(code)), "{map:?}");
     }
 }
 

@@ -22,10 +22,13 @@ fn ahead(point: Point, steps: i64, direction: Point) -> Point {
     (point.0 + steps * direction.0, point.1 + steps * direction.1)
 }
 
+/// A green and the code of its decision.
+type Decided = (Fraction, u8);
+
 /// The first-pass green, if any, and the estimates across and down.
 #[derive(Clone, Copy)]
 struct Site {
-    first: Option<Fraction>,
+    first: Option<Decided>,
     across: Fraction,
     down: Fraction,
 }
@@ -33,7 +36,7 @@ struct Site {
 struct Endless<'a> {
     frame: &'a Frame,
     sites: RefCell<HashMap<Point, Site>>,
-    greens: RefCell<HashMap<Point, Fraction>>,
+    greens: RefCell<HashMap<Point, Decided>>,
 }
 
 fn half() -> Fraction {
@@ -101,11 +104,11 @@ impl Endless<'_> {
         let h = self.gradient(point, EAST) + self.gradient(point, WEST);
         let v = self.gradient(point, SOUTH) + self.gradient(point, NORTH);
         let first = if h == v {
-            Some((across + down) * half())
+            Some(((across + down) * half(), 1))
         } else if h < v && 17 * h < 10 * v {
-            Some(across)
+            Some((across, 2))
         } else if v < h && 17 * v < 10 * h {
-            Some(down)
+            Some((down, 3))
         } else {
             None
         };
@@ -122,7 +125,7 @@ impl Endless<'_> {
     fn spread(&self, point: Point, direction: Point, own: fn(Site) -> Fraction) -> Fraction {
         let difference = |point: Point| {
             let site = self.site(point);
-            site.first.unwrap_or_else(|| own(site)) - self.sample(point)
+            site.first.map_or_else(|| own(site), |found| found.0) - self.sample(point)
         };
         let mut total = Fraction::whole(0);
         for steps in [-6, -4, -2, 2, 4, 6] {
@@ -132,7 +135,8 @@ impl Endless<'_> {
         total
     }
 
-    fn green(&self, point: Point) -> Fraction {
+    /// The green of a red or blue site and its code.
+    fn green(&self, point: Point) -> Decided {
         if let Some(&green) = self.greens.borrow().get(&point) {
             return green;
         }
@@ -144,11 +148,11 @@ impl Endless<'_> {
             let down = twice * self.spread(point, SOUTH, |site| site.down);
             let both = self.spread(point, EAST, middle) + self.spread(point, SOUTH, middle);
             if across < down.min(both) {
-                site.across
+                (site.across, 4)
             } else if down < across.min(both) {
-                site.down
+                (site.down, 5)
             } else {
-                middle(site)
+                (middle(site), 6)
             }
         });
         self.greens.borrow_mut().insert(point, green);
@@ -157,7 +161,7 @@ impl Endless<'_> {
 
     /// The final difference at a red or blue site.
     fn enhanced(&self, point: Point) -> Fraction {
-        let difference = |point: Point| self.green(point) - self.sample(point);
+        let difference = |point: Point| self.green(point).0 - self.sample(point);
         let pair = |direction: Point| {
             let off = difference(ahead(point, 2, direction));
             (off, self.gradient(point, direction))
@@ -203,6 +207,14 @@ impl Endless<'_> {
         );
         [red, green, blue].map(Fraction::nearest_halves_upward)
     }
+
+    /// The code at a point.
+    fn code(&self, point: Point) -> u8 {
+        match self.frame.colour(point.0, point.1) {
+            Colour::Green => 0,
+            _ => self.green(point).1,
+        }
+    }
 }
 
 #[test]
@@ -221,6 +233,8 @@ fn develop_agrees_with_the_second_form() {
             let found = [planes.red[site], planes.green[site], planes.blue[site]];
             let expected = endless.numbers(point);
             assert_eq!(found.map(i128::from), expected, "{point:?} of {frame:?}");
+            let code = endless.code(point);
+            assert_eq!(planes.map[site], code, "code at {point:?} of {frame:?}");
         }
     }
 }

@@ -1,4 +1,4 @@
-//! Demand 3: lists of mirrorings, transpositions and trades of red and blue.
+//! Demand 3: lists of mirrorings, transpositions and trades of red and blue; the codes of the map at matching points.
 
 mod common;
 
@@ -8,11 +8,11 @@ use reference::gradients::gradients;
 use reference::green::{first_pass, sums, Outcome, D, H, V};
 use reference::sites::{Colour, Frame};
 use reference::turning::{
-    changed, changed_by_list, matching_point, trades_an_odd_number, Change, CHANGES,
+    changed, changed_by_list, matching_code, matching_point, trades_an_odd_number, Change, CHANGES,
 };
 
 #[test]
-fn lists_of_changes_keep_the_numbers() {
+fn lists_of_changes_keep_the_numbers_and_the_map() {
     let mut generator = Generator::new(10);
     for _ in 0..1_500 {
         for kind in KINDS {
@@ -103,6 +103,22 @@ fn colours_and_samples_follow_the_matching_point() {
                 assert_eq!(last.sample(to_row, to_column), first.sample(row, column));
             }
         }
+    }
+}
+
+#[test]
+fn a_transposition_exchanges_the_codes_of_across_and_down() {
+    let codes = |changes: &[Change]| [0, 1, 2, 3, 4, 5, 6].map(|code| matching_code(changes, code));
+    let kept = [0, 1, 2, 3, 4, 5, 6];
+    assert_eq!(codes(&[]), kept);
+    for change in CHANGES {
+        let exchanged = [0, 1, 3, 2, 5, 4, 6];
+        let transposes = change == Change::Transpose;
+        assert_eq!(codes(&[change]), if transposes { exchanged } else { kept });
+        assert_eq!(
+            codes(&[Change::Transpose, change, Change::Transpose]),
+            codes(&[change])
+        );
     }
 }
 

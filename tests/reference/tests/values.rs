@@ -1,8 +1,8 @@
-//! Demand 3: the added constant, the measured sample and the range.
+//! Demand 3: the added constant, the measured sample and the range; the codes of the map.
 
 mod common;
 
-use common::demand3::{compare_measured, compare_raised, constants, extremes, raised};
+use common::demand3::{compare_measured, compare_raised, constants, decisions, extremes, raised};
 use common::{developed, frame, frame_of_sides, Developed, Generator, Kind, KINDS};
 use reference::calls::develop;
 use reference::sites::Frame;
@@ -59,6 +59,20 @@ fn the_measured_sample_stands_in_its_own_colour() {
 }
 
 #[test]
+fn the_map_has_0_at_green_sites_alone_and_every_code_to_6() {
+    let mut generator = Generator::new(25);
+    let mut seen = [0; 7];
+    for _ in 0..300 {
+        for kind in KINDS {
+            let frame = frame(&mut generator, kind, 12);
+            let counts = decisions(developed, &frame);
+            seen = std::array::from_fn(|code| seen[code] + counts[code]);
+        }
+    }
+    assert!(seen.iter().all(|&count| count > 1_000), "{seen:?}");
+}
+
+#[test]
 fn all_numbers_lie_in_the_range() {
     let mut generator = Generator::new(23);
     let (mut least, mut greatest) = (0, 0);
@@ -89,6 +103,7 @@ fn no_answer_depends_on_what_the_buffers_held() {
                 red: generator.numbers(42),
                 green: generator.numbers(42),
                 blue: generator.numbers(42),
+                map: generator.bytes(42),
             };
             let answer = develop(
                 7,
@@ -98,6 +113,7 @@ fn no_answer_depends_on_what_the_buffers_held() {
                 &mut planes.red,
                 &mut planes.green,
                 &mut planes.blue,
+                &mut planes.map,
                 &mut generator.numbers(4 * 42 + more),
             );
             assert_eq!(answer, Ok(()));

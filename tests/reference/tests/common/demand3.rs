@@ -1,8 +1,10 @@
-//! What demand 3 compares, for whatever develops a frame.
+//! What demand 3 compares, for whatever develops a frame, and what document 02, A1, says of its map.
 
-use super::{Developed, Generator};
+use super::{is_green, Developed, Generator};
 use reference::sites::{Colour, Frame};
-use reference::turning::{changed_by_list, matching_point, trades_an_odd_number, Change, CHANGES};
+use reference::turning::{
+    changed_by_list, matching_code, matching_point, trades_an_odd_number, Change, CHANGES,
+};
 
 /// The three numbers at a point, red and blue traded if asked.
 fn numbers(planes: &Developed, site: usize, traded: bool) -> [i32; 3] {
@@ -19,19 +21,20 @@ pub fn list(generator: &mut Generator) -> Vec<Change> {
     (0..length).map(|_| generator.one_of(&CHANGES)).collect()
 }
 
-/// Compares every point of the first frame with its matching point in the last.
+/// Compares every point of the first frame with its matching point in the last: the three numbers and the code.
 pub fn compare_changed(developed: impl Fn(&Frame) -> Developed, first: &Frame, changes: &[Change]) {
     let last = changed_by_list(first, changes);
-    let (first_planes, last_planes) = (developed(first), developed(&last));
+    let (before, after) = (developed(first), developed(&last));
     let traded = trades_an_odd_number(changes);
     for row in 0..first.height {
         for column in 0..first.width {
             let (to_row, to_column) = matching_point(first, changes, (row, column));
-            assert_eq!(
-                numbers(&first_planes, row * first.width + column, false),
-                numbers(&last_planes, to_row * last.width + to_column, traded),
-                "({row},{column}) of {first:?} by {changes:?}"
-            );
+            let (from, to) = (row * first.width + column, to_row * last.width + to_column);
+            let at = || format!("({row},{column}) of {first:?} by {changes:?}");
+            let expected = numbers(&before, from, false);
+            assert_eq!(numbers(&after, to, traded), expected, "{}", at());
+            let expected = matching_code(changes, before.map[from]);
+            assert_eq!(after.map[to], expected, "code at {}", at());
         }
     }
 }
@@ -51,7 +54,7 @@ pub fn raised(frame: &Frame, constant: i64) -> Frame {
     raised
 }
 
-/// Adding the constant to every sample adds it to all three numbers at every point.
+/// Adding the constant to every sample adds it to all three numbers at every point, and keeps the map.
 pub fn compare_raised(developed: impl Fn(&Frame) -> Developed, frame: &Frame, constant: i64) {
     let before = developed(frame);
     let after = developed(&raised(frame, constant));
@@ -65,6 +68,7 @@ pub fn compare_raised(developed: impl Fn(&Frame) -> Developed, frame: &Frame, co
         red: add(&before.red),
         green: add(&before.green),
         blue: add(&before.blue),
+        map: before.map,
     };
     assert_eq!(after, expected, "{constant} added to {frame:?}");
 }
@@ -92,4 +96,16 @@ pub fn extremes(developed: impl Fn(&Frame) -> Developed, frame: &Frame) -> (i32,
     }
     let least = *numbers.iter().min().unwrap();
     (least, *numbers.iter().max().unwrap())
+}
+
+/// The map has 0 at exactly the green sites and no code above 6; how many sites have each.
+pub fn decisions(developed: impl Fn(&Frame) -> Developed, frame: &Frame) -> [usize; 7] {
+    let mut counts = [0; 7];
+    for (site, &code) in developed(frame).map.iter().enumerate() {
+        let at = || format!("code {code} at site {site} of {frame:?}");
+        assert!(code <= 6, "{}", at());
+        assert_eq!(code == 0, is_green(frame, site), "{}", at());
+        counts[usize::from(code)] += 1;
+    }
+    counts
 }

@@ -13,6 +13,7 @@ pub struct Lent {
     pub red: Vec<i32>,
     pub green: Vec<i32>,
     pub blue: Vec<i32>,
+    pub map: Vec<u8>,
     pub work: Vec<i32>,
 }
 
@@ -28,6 +29,7 @@ impl Lent {
             red: generator.numbers(count),
             green: generator.numbers(count),
             blue: generator.numbers(count),
+            map: generator.bytes(count),
             work: generator.numbers(4 * count + more),
         }
     }
@@ -46,10 +48,12 @@ impl Lent {
             1 => self.width = generator.one_of(&[0, 1, 4_097, usize::MAX]),
             2 => self.phase = generator.one_of(&[4, 9, usize::MAX]),
             3 => self.mosaic.push(3),
-            4 => match generator.between(0, 3) {
+            4 => match generator.between(0, 5) {
                 0 => self.red.push(1),
                 1 => self.green.clear(),
                 2 => self.blue.truncate(1),
+                3 => self.map.push(1),
+                4 => self.map.truncate(3),
                 _ => self.work.truncate(3),
             },
             _ => self.mosaic[0] = 2_000,

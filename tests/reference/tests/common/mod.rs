@@ -1,4 +1,4 @@
-//! What the tests share: numbers drawn from a seed, frames of six kinds, developed planes.
+//! What the tests share: numbers drawn from a seed, frames of six kinds, developed planes and maps.
 #![allow(dead_code)] // each test file uses a part
 
 pub mod demand3;
@@ -7,7 +7,7 @@ pub mod lent;
 
 use reference::calls::develop;
 use reference::frame_file::{block_count, check, write, BLOCK};
-use reference::sites::Frame;
+use reference::sites::{Colour, Frame};
 
 /// Numbers that follow from a seed alone.
 pub struct Generator {
@@ -48,6 +48,11 @@ impl Generator {
     pub fn numbers(&mut self, count: usize) -> Vec<i32> {
         let number = || self.between(i32::MIN.into(), i32::MAX.into()) as i32;
         std::iter::repeat_with(number).take(count).collect()
+    }
+
+    pub fn bytes(&mut self, count: usize) -> Vec<u8> {
+        let byte = || self.between(0, 255) as u8;
+        std::iter::repeat_with(byte).take(count).collect()
     }
 }
 
@@ -154,44 +159,55 @@ pub fn edge_frame(phase: usize) -> Frame {
     }
 }
 
-/// The planes that develop fills.
+/// The planes and the decision map that develop fills.
 #[derive(Clone, Debug, PartialEq, Eq)]
 pub struct Developed {
     pub red: Vec<i32>,
     pub green: Vec<i32>,
     pub blue: Vec<i32>,
+    pub map: Vec<u8>,
 }
 
-/// Three planes that are all equal to the mosaic.
-pub fn grey(frame: &Frame) -> Developed {
+/// Whether a site is green.
+pub fn is_green(frame: &Frame, site: usize) -> bool {
+    let (row, column) = (site / frame.width, site % frame.width);
+    frame.colour(row as i64, column as i64) == Colour::Green
+}
+
+/// Three planes that are all equal to the mosaic, and a map with one code at every red and blue site.
+pub fn grey(frame: &Frame, code: u8) -> Developed {
     let mosaic: Vec<i32> = frame.samples.iter().map(|&z| i32::from(z)).collect();
+    let code_of = |site| if is_green(frame, site) { 0 } else { code };
     Developed {
         red: mosaic.clone(),
         green: mosaic.clone(),
         blue: mosaic,
+        map: (0..frame.samples.len()).map(code_of).collect(),
     }
 }
 
 /// Develops a frame that must be accepted, into buffers that hold something else.
 pub fn developed(frame: &Frame) -> Developed {
     let count = frame.width * frame.height;
-    let mut planes = Developed {
+    let mut developed = Developed {
         red: vec![-9_999; count],
         green: vec![-8_888; count],
         blue: vec![-7_777; count],
+        map: vec![99; count],
     };
     let answer = develop(
         frame.width,
         frame.height,
         frame.phase,
         &frame.samples,
-        &mut planes.red,
-        &mut planes.green,
-        &mut planes.blue,
+        &mut developed.red,
+        &mut developed.green,
+        &mut developed.blue,
+        &mut developed.map,
         &mut vec![-6_666; 4 * count],
     );
     assert_eq!(answer, Ok(()), "{frame:?}");
-    planes
+    developed
 }
 
 /// The file that the writer makes of a frame, in a buffer that holds something else.
