@@ -10,6 +10,7 @@
 struct buffers {
     uint16_t *samples;
     int32_t *red, *green, *blue, *work, *clamped;
+    uint8_t *map;
 };
 
 static int refused(size_t number, size_t place)
@@ -56,14 +57,16 @@ static void clamp(int32_t *plane, int32_t *clamped, size_t count)
 static int develop(struct bayer_shape shape, struct buffers *lent)
 {
     const size_t count = BAYER_PLANE_LENGTH(shape.width, shape.height);
+    const size_t map_length = BAYER_MAP_LENGTH(shape.width, shape.height);
     const size_t work_length = BAYER_WORK_LENGTH(shape.width, shape.height);
     lent->red = room(count, sizeof *lent->red);
     lent->green = room(count, sizeof *lent->green);
     lent->blue = room(count, sizeof *lent->blue);
     lent->clamped = room(count, sizeof *lent->clamped);
+    lent->map = room(map_length, sizeof *lent->map);
     lent->work = room(work_length, sizeof *lent->work);
     const struct bayer_returned returned = bayer_develop(shape, lent->samples, count, lent->red, count, lent->green, count, lent->blue,
-                                                         count, lent->work, work_length);
+                                                         count, lent->map, map_length, lent->work, work_length);
     if (returned.number != BAYER_DONE) {
         return refused(returned.number, returned.place);
     }
@@ -84,7 +87,7 @@ int main(int count, char **words)
         return 2;
     }
     size_t length;
-    struct buffers lent = {NULL, NULL, NULL, NULL, NULL, NULL};
+    struct buffers lent = {NULL, NULL, NULL, NULL, NULL, NULL, NULL};
     uint8_t *file = contents(words[1], &length);
     lent.samples = room(BAYER_READ_LENGTH(length), sizeof *lent.samples);
     const struct bayer_read_returned read = bayer_read(file, length, lent.samples, BAYER_READ_LENGTH(length));
@@ -96,6 +99,7 @@ int main(int count, char **words)
     free(lent.green);
     free(lent.blue);
     free(lent.clamped);
+    free(lent.map);
     free(lent.work);
     return status;
 }

@@ -31,6 +31,7 @@ struct Frame {
 
 struct Planes {
     std::vector<std::int32_t> red, green, blue;
+    std::vector<std::uint8_t> map;
 };
 
 void accept(const bayer_returned &returned)
@@ -53,10 +54,11 @@ Planes develop(const Frame &frame)
 {
     const std::size_t count = frame.mosaic.size();
     const std::vector<std::int32_t> empty(count);
-    Planes planes = {empty, empty, empty};
+    const std::vector<std::uint8_t> undecided(BAYER_MAP_LENGTH(frame.shape.width, frame.shape.height));
+    Planes planes = {empty, empty, empty, undecided};
     std::vector<std::int32_t> work(BAYER_WORK_LENGTH(frame.shape.width, frame.shape.height));
     accept(bayer_develop(frame.shape, frame.mosaic.data(), count, planes.red.data(), count, planes.green.data(), count,
-                         planes.blue.data(), count, work.data(), work.size()));
+                         planes.blue.data(), count, planes.map.data(), planes.map.size(), work.data(), work.size()));
     return planes;
 }
 

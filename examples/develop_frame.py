@@ -40,17 +40,21 @@ class Bayer:
         library.bayer_read.argtypes = lent(c_uint8) + lent(c_uint16)
         library.bayer_read.restype = ReadReturned
         library.bayer_write.argtypes = [Shape] + lent(c_uint16) + lent(c_uint8)
-        library.bayer_develop.argtypes = [Shape] + lent(c_uint16) + 4 * lent(c_int32)
+        library.bayer_develop.argtypes = [Shape] + lent(c_uint16) + 3 * lent(c_int32) + lent(c_uint8) + lent(c_int32)
         library.bayer_clamp.argtypes = 2 * lent(c_int32)
         for call in (library.bayer_write, library.bayer_develop, library.bayer_clamp):
             call.restype = Returned
-        library.bayer_text.argtypes = [c_size_t]
-        library.bayer_text.restype = c_char_p
         library.bayer_version.argtypes = []
-        library.bayer_version.restype = c_char_p
+        library.bayer_text.argtypes = library.bayer_decision_text.argtypes = [c_size_t]
+        for text in (library.bayer_version, library.bayer_text, library.bayer_decision_text):
+            text.restype = c_char_p
 
     def version(self):
         return self.library.bayer_version().decode()
+
+    def decision_text(self, code):
+        """What a code of the decision map says."""
+        return self.library.bayer_decision_text(code).decode()
 
     def _accept(self, returned):
         if returned.number != 0:
@@ -73,14 +77,15 @@ class Bayer:
         return bytes(file)
 
     def develop(self, shape, samples):
-        """Three planes, unclamped."""
+        """Three planes, unclamped, and the decision map: how the green of each site was decided."""
         count = len(samples)
         mosaic = (c_uint16 * count)(*samples)
         planes = [(c_int32 * count)() for _ in range(3)]
+        decisions = (c_uint8 * count)()
         work = (c_int32 * (4 * count))()
-        buffers = [part for buffer in [mosaic, *planes, work] for part in (buffer, len(buffer))]
+        buffers = [part for buffer in [mosaic, *planes, decisions, work] for part in (buffer, len(buffer))]
         self._accept(self.library.bayer_develop(shape, *buffers))
-        return [list(plane) for plane in planes]
+        return [list(plane) for plane in planes], bytes(decisions)
 
     def clamp(self, plane):
         """The plane with each value held to 0..1,023."""
@@ -95,12 +100,13 @@ def main(library, path):
         file = stream.read()
     try:
         shape, samples = bayer.read(file)
-        planes = [bayer.clamp(plane) for plane in bayer.develop(shape, samples)]
+        planes, _ = bayer.develop(shape, samples)
+        clamped = [bayer.clamp(plane) for plane in planes]
     except Refused as refused:
         print(refused)
         return 1
     print("row col red green blue")
-    for place, colours in enumerate(zip(*planes)):
+    for place, colours in enumerate(zip(*clamped)):
         print(place // shape.width, place % shape.width, *colours)
     return 0
 

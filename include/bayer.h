@@ -1,7 +1,8 @@
-/* Develops frames of 10-bit Bayer samples to red, green and blue planes, holds planes to 0..1,023, and reads and writes frame files
-   (docs/FORMAT.md). Usable from C99 and C++11 on. Link libbayer.a or libbayer.so.
+/* Develops frames of 10-bit Bayer samples to red, green and blue planes and tells how each green was decided, holds planes to 0..1,023,
+   and reads and writes frame files (docs/FORMAT.md). Usable from C99 and C++11 on. Link libbayer.a or libbayer.so.
 
    Every input is answered: a call returns 0, 0 or the number and place of a refusal, and a refusal leaves every buffer as it was.
+   Arguments stand in one order in all calls: shape, mosaic, the planes red, green and blue, map, work, each buffer before its length.
 
    What the caller owes:
    - a pointer is valid for its length, which counts entries and not bytes, and is aligned for its type;
@@ -14,7 +15,7 @@
    BAYER_STACK_BYTES of the caller's stack, on any frame.
 
    Left out: white balance, colour matrices, lenses, filter arrays other than the four phases of Bayer's, rows with a stride, and planes
-   interleaved in one buffer. Planes and mosaics are whole: entry i*W + j is row i, column j.
+   interleaved in one buffer. Planes, mosaics and maps are whole: entry i*W + j is row i, column j.
 
    Platforms: x86-64 Linux, on any such processor. libbayer.a takes memcpy and memset from the C library, libbayer.so from glibc. Not
    others: no 32-bit x86, no ARM, no Windows, no macOS. */
@@ -30,10 +31,10 @@ extern "C" {
 
 /* The version of this header; bayer_version() tells that of the linked library. The first number changes where a program has to be
    built again. */
-#define BAYER_VERSION_MAJOR 1
+#define BAYER_VERSION_MAJOR 2
 #define BAYER_VERSION_MINOR 0
 #define BAYER_VERSION_PATCH 0
-#define BAYER_VERSION "1.0.0"
+#define BAYER_VERSION "2.0.0"
 
 /* A call takes at most this many bytes of the caller's stack: a thread with just this stack may develop from its first function. */
 #define BAYER_STACK_BYTES 589824
@@ -43,8 +44,10 @@ extern "C" {
 #define BAYER_SIDE_MOST 4096
 #define BAYER_SAMPLE_MOST 1023
 
-/* Entries of a mosaic or a plane, least entries of develop's work buffer, and bytes of the frame file, for sides within the range. */
+/* Entries of a mosaic or a plane, bytes of the decision map, least entries of develop's work buffer, and bytes of the frame file, for
+   sides within the range. */
 #define BAYER_PLANE_LENGTH(width, height) ((size_t)(width) * (size_t)(height))
+#define BAYER_MAP_LENGTH(width, height) BAYER_PLANE_LENGTH(width, height)
 #define BAYER_WORK_LENGTH(width, height) ((size_t)4 * BAYER_PLANE_LENGTH(width, height))
 #define BAYER_FILE_LENGTH(width, height) ((size_t)512 * (1 + (BAYER_PLANE_LENGTH(width, height) + 399) / 400))
 
@@ -58,6 +61,17 @@ enum bayer_phase {
     BAYER_GRBG = 1,
     BAYER_GBRG = 2,
     BAYER_BGGR = 3
+};
+
+/* How a site's green was decided: the codes of the decision map. Across is along the row, down is along the column. */
+enum bayer_decision {
+    BAYER_MEASURED = 0,      /* a green site: the sample */
+    BAYER_EQUAL = 1,         /* the gradients across and down are equal: the mean of the estimates across and down */
+    BAYER_STRONG_ACROSS = 2, /* the gradient across is much the lower: the estimate across */
+    BAYER_STRONG_DOWN = 3,   /* the gradient down is much the lower: the estimate down */
+    BAYER_WEAK_ACROSS = 4,   /* neither is; resolved by the sites around: the estimate across */
+    BAYER_WEAK_DOWN = 5,     /* the same: the estimate down */
+    BAYER_WEAK_TO_MEAN = 6   /* the same: the mean of both */
 };
 
 /* The numbers that the calls return, and the place that comes with each. The lower numbers are tested first, except in read, whose order
@@ -105,18 +119,22 @@ struct bayer_read_returned bayer_read(const uint8_t *file, size_t file_length, u
 struct bayer_returned bayer_write(struct bayer_shape shape, const uint16_t *mosaic, size_t mosaic_length, uint8_t *file,
                                   size_t file_length);
 
-/* Develops a frame into red, green and blue, unclamped: each number lies in -2,046 to 3,069. The mosaic and the planes have exactly W*H
-   entries, work has BAYER_WORK_LENGTH(W, H) or more. No answer depends on what work and the planes held before; after success work may
-   hold anything. */
+/* Develops a frame into red, green and blue, unclamped: each number lies in -2,046 to 3,069. Into map goes the decision code of each site,
+   enum bayer_decision. Transposing a frame exchanges 2 with 3 and 4 with 5 at matching points; mirroring it, trading red and blue and
+   adding a constant keep every code. The mosaic and the planes have exactly W*H entries, map has exactly BAYER_MAP_LENGTH(W, H), work has
+   BAYER_WORK_LENGTH(W, H) or more. No answer depends on what the planes, map and work held before; after success work may hold anything. */
 struct bayer_returned bayer_develop(struct bayer_shape shape, const uint16_t *mosaic, size_t mosaic_length, int32_t *red,
                                     size_t red_length, int32_t *green, size_t green_length, int32_t *blue, size_t blue_length,
-                                    int32_t *work, size_t work_length);
+                                    uint8_t *map, size_t map_length, int32_t *work, size_t work_length);
 
 /* Fills clamped with each value of plane held to 0..1,023; both have the same length, which may be any. */
 struct bayer_returned bayer_clamp(const int32_t *plane, size_t plane_length, int32_t *clamped, size_t clamped_length);
 
 /* What a returned number says, in a few words of English; a text also for a number that no call returns. Never null, never to be freed. */
 const char *bayer_text(size_t number);
+
+/* What a decision code says, in a few words of English; a text also for a code that no map holds. Never null, never to be freed. */
+const char *bayer_decision_text(size_t code);
 
 /* The linked library's version, as BAYER_VERSION is written. */
 const char *bayer_version(void);

@@ -15,9 +15,24 @@ static const char texts[][72] = {
     "a filler byte or sample is not zero",
 };
 
+static const char decisions[][32] = {
+    "measured",
+    "equal",
+    "strong across",
+    "strong down",
+    "weak resolved across",
+    "weak resolved down",
+    "weak resolved to the mean",
+};
+
 const char *bayer_text(size_t number)
 {
     return number < sizeof texts / sizeof texts[0] ? texts[number] : "no number that a call returns";
+}
+
+const char *bayer_decision_text(size_t code)
+{
+    return code < sizeof decisions / sizeof decisions[0] ? decisions[code] : "no decision code";
 }
 
 const char *bayer_version(void)

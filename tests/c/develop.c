@@ -1,4 +1,5 @@
-/* bayer_develop and bayer_clamp called from C: the document's frame, its planes clamped, refusals that leave the buffers. */
+/* bayer_develop and bayer_clamp called from C: the document's frame, one with every decision, planes clamped, refusals that leave the
+   buffers. */
 #include <string.h>
 
 #include "bayer.h"
@@ -9,14 +10,16 @@ enum { COUNT = 4, WORK = 4 * COUNT };
 static const struct bayer_shape shape = {2, 2, 0};
 static const uint16_t mosaic[COUNT] = {100, 40, 61, 200};
 
-/* The planes and the work buffer that are lent to develop. */
+/* The planes, the map and the work buffer that are lent to develop. */
 struct lent {
     int32_t red[COUNT], green[COUNT], blue[COUNT], work[WORK];
+    uint8_t map[COUNT];
 };
 
-static struct bayer_returned develop(struct bayer_shape of, const uint16_t *samples, struct lent *lent, size_t work)
+/* Lends this many entries of the map and of work. */
+static struct bayer_returned develop(struct bayer_shape of, const uint16_t *samples, struct lent *lent, size_t map, size_t work)
 {
-    return bayer_develop(of, samples, COUNT, lent->red, COUNT, lent->green, COUNT, lent->blue, COUNT, lent->work, work);
+    return bayer_develop(of, samples, COUNT, lent->red, COUNT, lent->green, COUNT, lent->blue, COUNT, lent->map, map, lent->work, work);
 }
 
 static int is(struct bayer_returned returned, size_t number, size_t place)
@@ -29,12 +32,43 @@ static void develops_the_example(void)
     const int32_t red[COUNT] = {100, 90, 111, 100};
     const int32_t green[COUNT] = {51, 40, 61, 51};
     const int32_t blue[COUNT] = {200, 190, 211, 200};
+    const uint8_t map[COUNT] = {BAYER_EQUAL, BAYER_MEASURED, BAYER_MEASURED, BAYER_EQUAL};
     struct lent lent;
     memset(&lent, 0xa5, sizeof lent);
-    expect(is(develop(shape, mosaic, &lent, WORK), 0, 0), "develop returns 0, 0");
+    expect(is(develop(shape, mosaic, &lent, COUNT, WORK), 0, 0), "develop returns 0, 0");
     expect(memcmp(lent.red, red, sizeof red) == 0, "the red plane of the example");
     expect(memcmp(lent.green, green, sizeof green) == 0, "the green plane of the example");
     expect(memcmp(lent.blue, blue, sizeof blue) == 0, "the blue plane of the example");
+    expect(memcmp(lent.map, map, sizeof map) == 0, "the decision map of the example");
+}
+
+/* The larger frame of tests/reference, which has every code. */
+static void maps_every_decision(void)
+{
+    enum { SIDE = 6, SITES = SIDE * SIDE };
+    const struct bayer_shape of = {SIDE, SIDE, BAYER_GBRG};
+    const uint16_t samples[SITES] = {
+        140,  1023, 1023, 0,    600,  900,
+        0,    1023, 1000, 0,    300,  0,
+        1023, 0,    1023, 1023, 1023, 0,
+        220,  0,    1023, 0,    100,  500,
+        0,    0,    0,    0,    0,    1023,
+        0,    0,    800,  0,    1023, 0,
+    };
+    const uint8_t codes[SITES] = {
+        0, 3, 0, 6, 0, 1,
+        3, 0, 3, 0, 6, 0,
+        0, 5, 0, 6, 0, 5,
+        5, 0, 4, 0, 6, 0,
+        0, 6, 0, 4, 0, 5,
+        4, 0, 4, 0, 2, 0,
+    };
+    int32_t red[SITES], green[SITES], blue[SITES], work[BAYER_WORK_LENGTH(SIDE, SIDE)];
+    uint8_t map[BAYER_MAP_LENGTH(SIDE, SIDE)];
+    memset(map, 0xa5, sizeof map);
+    const struct bayer_returned returned =
+        bayer_develop(of, samples, SITES, red, SITES, green, SITES, blue, SITES, map, sizeof map, work, BAYER_WORK_LENGTH(SIDE, SIDE));
+    expect(is(returned, 0, 0) && memcmp(map, codes, sizeof codes) == 0, "the map of a frame with every decision");
 }
 
 static void refuses(void)
@@ -46,11 +80,12 @@ static void refuses(void)
     struct lent lent, before;
     memset(&lent, 0xa5, sizeof lent);
     memcpy(&before, &lent, sizeof lent);
-    expect(is(develop(narrow, bright, &lent, 3), 1, 0), "develop tests the size first: 1, 0");
-    expect(is(develop(phase_4, bright, &lent, 3), 2, 0), "then the phase: 2, 0");
-    expect(is(develop(wide, bright, &lent, 3), 3, 0), "then the mosaic's length: 3, 0");
-    expect(is(develop(shape, bright, &lent, WORK - 1), 4, 0), "then the other lengths: 4, 0");
-    expect(is(develop(shape, bright, &lent, WORK), 5, 2), "then the samples: 5 and the place of the first");
+    expect(is(develop(narrow, bright, &lent, 3, 3), 1, 0), "develop tests the size first: 1, 0");
+    expect(is(develop(phase_4, bright, &lent, 3, 3), 2, 0), "then the phase: 2, 0");
+    expect(is(develop(wide, bright, &lent, 3, 3), 3, 0), "then the mosaic's length: 3, 0");
+    expect(is(develop(shape, bright, &lent, COUNT, WORK - 1), 4, 0), "then the other lengths, of work: 4, 0");
+    expect(is(develop(shape, bright, &lent, COUNT - 1, WORK), 4, 0), "and of the map: 4, 0");
+    expect(is(develop(shape, bright, &lent, COUNT, WORK), 5, 2), "then the samples: 5 and the place of the first");
     expect(memcmp(&lent, &before, sizeof lent) == 0, "a refused develop leaves every buffer");
 }
 
@@ -68,6 +103,7 @@ static void clamps(void)
 int main(void)
 {
     develops_the_example();
+    maps_every_decision();
     refuses();
     clamps();
     return expected();

@@ -25,6 +25,20 @@ static void texts(void)
     expect(strstr(bayer_text(BAYER_FILLER), "filler") != NULL, "the text of 10 is that of the filler");
 }
 
+static void decision_texts(void)
+{
+    const char *const words[] = {"measured", "equal", "strong across", "strong down", "weak resolved across", "weak resolved down",
+                                 "weak resolved to the mean"};
+    int as_told = sizeof words / sizeof words[0] == BAYER_WEAK_TO_MEAN + 1, differ = 1;
+    for (size_t code = BAYER_MEASURED; code <= BAYER_WEAK_TO_MEAN; code++) {
+        as_told = as_told && strcmp(bayer_decision_text(code), words[code]) == 0;
+        differ = differ && strcmp(bayer_decision_text(code), bayer_decision_text(SIZE_MAX)) != 0;
+    }
+    expect(as_told, "each decision code has its text");
+    expect(differ && bayer_decision_text(SIZE_MAX)[0] != '\0', "codes that no map holds have another");
+    expect(strcmp(bayer_decision_text(BAYER_WEAK_TO_MEAN + 1), bayer_decision_text(SIZE_MAX)) == 0, "and one for all of them");
+}
+
 static void version(void)
 {
     char numbers[32];
@@ -51,6 +65,7 @@ static void lengths(void)
     expect(BAYER_FILE_LENGTH(2, 2) == 1024 && BAYER_FILE_LENGTH(20, 20) == 1024, "400 samples fit in one block after the first");
     expect(BAYER_FILE_LENGTH(3, 134) == 1536, "402 samples take one more");
     expect(BAYER_WORK_LENGTH(BAYER_SIDE_MOST, BAYER_SIDE_MOST) == (size_t)1 << 26, "the work buffer of the largest frame");
+    expect(BAYER_MAP_LENGTH(BAYER_SIDE_MOST, BAYER_SIDE_MOST) == (size_t)1 << 24, "the map of the largest frame");
     expect(BAYER_WORK_LENGTH((uint16_t)4096, (short)3 + 1) == 65536, "lengths for arguments of any type");
     expect(BAYER_READ_LENGTH(0) == 0 && BAYER_READ_LENGTH(511) == 0, "no room for a file that is too short");
     expect(read_has_room(2, 2) && read_has_room(20, 20) && read_has_room(3, 134) && read_has_room(4096, 2),
@@ -111,18 +126,21 @@ static void null_mosaics_and_files(void)
 static void null_planes(void)
 {
     int32_t red[COUNT], green[COUNT], blue[COUNT], work[WORK];
-    struct bayer_returned returned = bayer_develop(shape, NULL, 0, red, COUNT, green, COUNT, blue, COUNT, work, WORK);
+    uint8_t map[COUNT];
+    struct bayer_returned returned = bayer_develop(shape, NULL, 0, red, COUNT, green, COUNT, blue, COUNT, map, COUNT, work, WORK);
     expect(is(returned, BAYER_MOSAIC_LENGTH), "develop, mosaic null with length 0: 3, 0");
-    returned = bayer_develop(shape, mosaic, COUNT, NULL, 0, green, COUNT, blue, COUNT, work, WORK);
+    returned = bayer_develop(shape, mosaic, COUNT, NULL, 0, green, COUNT, blue, COUNT, map, COUNT, work, WORK);
     expect(is(returned, BAYER_BUFFER_LENGTH), "develop, red null with length 0: 4, 0");
-    returned = bayer_develop(shape, mosaic, COUNT, red, COUNT, NULL, 0, blue, COUNT, work, WORK);
+    returned = bayer_develop(shape, mosaic, COUNT, red, COUNT, NULL, 0, blue, COUNT, map, COUNT, work, WORK);
     expect(is(returned, BAYER_BUFFER_LENGTH), "develop, green null with length 0: 4, 0");
-    returned = bayer_develop(shape, mosaic, COUNT, red, COUNT, green, COUNT, NULL, 0, work, WORK);
+    returned = bayer_develop(shape, mosaic, COUNT, red, COUNT, green, COUNT, NULL, 0, map, COUNT, work, WORK);
     expect(is(returned, BAYER_BUFFER_LENGTH), "develop, blue null with length 0: 4, 0");
-    returned = bayer_develop(shape, mosaic, COUNT, red, COUNT, green, COUNT, blue, COUNT, NULL, 0);
+    returned = bayer_develop(shape, mosaic, COUNT, red, COUNT, green, COUNT, blue, COUNT, NULL, 0, work, WORK);
+    expect(is(returned, BAYER_BUFFER_LENGTH), "develop, map null with length 0: 4, 0");
+    returned = bayer_develop(shape, mosaic, COUNT, red, COUNT, green, COUNT, blue, COUNT, map, COUNT, NULL, 0);
     expect(is(returned, BAYER_BUFFER_LENGTH), "develop, work null with length 0: 4, 0");
     const struct bayer_shape none = {0, 0, 0};
-    returned = bayer_develop(none, NULL, 0, NULL, 0, NULL, 0, NULL, 0, NULL, 0);
+    returned = bayer_develop(none, NULL, 0, NULL, 0, NULL, 0, NULL, 0, NULL, 0, NULL, 0);
     expect(is(returned, BAYER_SIZE), "develop, everything null and 0: 1, 0");
     expect(is(bayer_clamp(NULL, 0, NULL, 0), BAYER_DONE), "clamp, both null with length 0: 0, 0");
     expect(is(bayer_clamp(NULL, 0, red, COUNT), BAYER_BUFFER_LENGTH), "clamp, plane null with length 0: 4, 0");
@@ -132,6 +150,7 @@ static void null_planes(void)
 int main(void)
 {
     texts();
+    decision_texts();
     version();
     lengths();
     numbers();

@@ -14,6 +14,7 @@ fn developed(file: &[u8]) -> Result<(Shape, [Plane; 3]), Refusal> {
     let shape = read(file, &mut samples)?;
     let count = shape.plane_length();
     let [mut red, mut green, mut blue] = [(); 3].map(|()| vec![0; count]);
+    let mut map = vec![0; shape.map_length()];
     let mut work = vec![0; shape.work_length()];
     develop(
         shape,
@@ -21,6 +22,7 @@ fn developed(file: &[u8]) -> Result<(Shape, [Plane; 3]), Refusal> {
         &mut red,
         &mut green,
         &mut blue,
+        &mut map,
         &mut work,
     )?;
     let mut held = [(); 3].map(|()| vec![0; count]);

@@ -44,6 +44,8 @@ extern "C" {
         green_length: usize,
         blue: *mut i32,
         blue_length: usize,
+        map: *mut u8,
+        map_length: usize,
         work: *mut i32,
         work_length: usize,
     ) -> Returned;
@@ -56,6 +58,8 @@ extern "C" {
     ) -> Returned;
 
     pub fn bayer_text(number: usize) -> *const c_char;
+
+    pub fn bayer_decision_text(code: usize) -> *const c_char;
 
     pub fn bayer_version() -> *const c_char;
 }

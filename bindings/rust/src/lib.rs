@@ -1,4 +1,5 @@
-//! Develops frames of 10-bit Bayer samples to red, green and blue planes, clamps planes, and reads and writes frame files.
+//! Develops frames of 10-bit Bayer samples to red, green and blue planes and a map of how each green was decided, clamps planes, and
+//! reads and writes frame files.
 //!
 //! Safe functions over slices; the work is done by libbayer. Every input is answered: a call succeeds, or returns a [`Refusal`] and leaves
 //! every buffer as it was. Nothing is allocated, and calls may run in any number of threads.
@@ -6,15 +7,18 @@
 //! ```
 //! let shape = bayer::Shape { width: 2, height: 2, phase: 0 };
 //! let mosaic = [100, 40, 61, 200];
-//! let (mut red, mut green, mut blue, mut work) = ([0; 4], [0; 4], [0; 4], [0; 16]);
-//! bayer::develop(shape, &mosaic, &mut red, &mut green, &mut blue, &mut work)?;
+//! let (mut red, mut green, mut blue, mut map, mut work) = ([0; 4], [0; 4], [0; 4], [0; 4], [0; 16]);
+//! bayer::develop(shape, &mosaic, &mut red, &mut green, &mut blue, &mut map, &mut work)?;
 //! assert_eq!((red, green, blue), ([100, 90, 111, 100], [51, 40, 61, 51], [200, 190, 211, 200]));
+//! assert_eq!(bayer::Decision::from_code(map[0]), Some(bayer::Decision::Equal));
 //! # Ok::<(), bayer::Refusal>(())
 //! ```
 
+mod decision;
 mod ffi;
 mod refusal;
 
+pub use decision::{decision_text, Decision};
 pub use refusal::Refusal;
 
 use std::ffi::{c_char, CStr};
@@ -38,6 +42,11 @@ impl Shape {
     /// Entries of the mosaic and of each plane: W·H. For sides past the range the product is cut, and every call refuses them.
     pub const fn plane_length(self) -> usize {
         self.width.wrapping_mul(self.height)
+    }
+
+    /// Bytes of the decision map: one for each site.
+    pub const fn map_length(self) -> usize {
+        self.plane_length()
     }
 
     /// Entries that develop needs of its work buffer.
@@ -95,14 +104,16 @@ pub fn write(shape: Shape, mosaic: &[u16], file: &mut [u8]) -> Result<(), Refusa
     returned.accepted()
 }
 
-/// Develops a frame into three planes, unclamped. The mosaic and the planes have exactly [`Shape::plane_length`] entries, `work` has
-/// [`Shape::work_length`] or more. No answer depends on what `work` and the planes held before; after success `work` may hold anything.
+/// Develops a frame into three planes, unclamped, and the code of each site's [`Decision`] into `map`. The mosaic and the planes have
+/// exactly [`Shape::plane_length`] entries, `map` has exactly [`Shape::map_length`], `work` has [`Shape::work_length`] or more. No answer
+/// depends on what the planes, `map` and `work` held before; after success `work` may hold anything.
 pub fn develop(
     shape: Shape,
     mosaic: &[u16],
     red: &mut [i32],
     green: &mut [i32],
     blue: &mut [i32],
+    map: &mut [u8],
     work: &mut [i32],
 ) -> Result<(), Refusal> {
     // Each slice is lent with its own length, and one that may be changed is lent to no other.
@@ -117,6 +128,8 @@ pub fn develop(
             green.len(),
             blue.as_mut_ptr(),
             blue.len(),
+            map.as_mut_ptr(),
+            map.len(),
             work.as_mut_ptr(),
             work.len(),
         )

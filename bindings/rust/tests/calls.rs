@@ -1,6 +1,8 @@
 //! The wrapper's calls: the example frame, the way through a file, each refusal, and what the header says of lengths and texts.
 
-use bayer::{clamp, develop, read, read_length, text, write, Refusal, Shape};
+use bayer::{
+    clamp, decision_text, develop, read, read_length, text, write, Decision, Refusal, Shape,
+};
 
 const SHAPE: Shape = Shape {
     width: 2,
@@ -32,31 +34,43 @@ fn with_check(mut file: Vec<u8>, block: usize) -> Vec<u8> {
 
 #[test]
 fn develops_the_example() {
-    let (mut red, mut green, mut blue, mut work) = ([7; 4], [7; 4], [7; 4], [7; 16]);
-    let answer = develop(SHAPE, &MOSAIC, &mut red, &mut green, &mut blue, &mut work);
-    assert_eq!(answer, Ok(()));
+    let (mut red, mut green, mut blue) = ([7; 4], [7; 4], [7; 4]);
+    let (mut map, mut work) = ([7; 4], [7; 16]);
+    develop(
+        SHAPE, &MOSAIC, &mut red, &mut green, &mut blue, &mut map, &mut work,
+    )
+    .unwrap();
     assert_eq!(red, [100, 90, 111, 100]);
     assert_eq!(green, [51, 40, 61, 51]);
     assert_eq!(blue, [200, 190, 211, 200]);
+    assert_eq!(map, [1, 0, 0, 1]);
 }
 
 #[test]
 fn develop_refuses_and_leaves_the_buffers() {
-    let refuses = |shape, mosaic: &[u16], work: usize, number, place| {
+    let refuses = |shape, mosaic: &[u16], [map, work]: [usize; 2], number, place| {
         let (mut red, mut green, mut blue) = ([7; 4], [7; 4], [7; 4]);
-        let mut work = vec![7; work];
-        let answer = develop(shape, mosaic, &mut red, &mut green, &mut blue, &mut work);
+        let (mut map, mut work) = (vec![7; map], vec![7; work]);
+        let answer = develop(
+            shape, mosaic, &mut red, &mut green, &mut blue, &mut map, &mut work,
+        );
         assert_eq!(answer, refused(number, place));
         assert_eq!([red, green, blue], [[7; 4]; 3]);
+        assert!(map.iter().all(|&code| code == 7));
         assert!(work.iter().all(|&entry| entry == 7));
     };
-    let bright = [100, 40, 1024, 1025];
-    refuses(Shape { width: 1, ..SHAPE }, &bright, 15, Refusal::SIZE, 0);
-    refuses(Shape { phase: 4, ..SHAPE }, &bright, 15, Refusal::PHASE, 0);
-    refuses(SHAPE, &bright[..3], 15, Refusal::MOSAIC_LENGTH, 0);
-    refuses(SHAPE, &[], 0, Refusal::MOSAIC_LENGTH, 0);
-    refuses(SHAPE, &bright, 15, Refusal::BUFFER_LENGTH, 0);
-    refuses(SHAPE, &bright, 16, Refusal::SAMPLE, 2);
+    let (bright, short) = ([100, 40, 1024, 1025], [4, 15]);
+    let narrow = Shape { width: 1, ..SHAPE };
+    refuses(narrow, &bright, short, Refusal::SIZE, 0);
+    let phase_4 = Shape { phase: 4, ..SHAPE };
+    refuses(phase_4, &bright, short, Refusal::PHASE, 0);
+    refuses(SHAPE, &bright[..3], short, Refusal::MOSAIC_LENGTH, 0);
+    refuses(SHAPE, &[], [0, 0], Refusal::MOSAIC_LENGTH, 0);
+    refuses(SHAPE, &bright, short, Refusal::BUFFER_LENGTH, 0);
+    for map in [0, 3, 5, 16] {
+        refuses(SHAPE, &bright, [map, 16], Refusal::BUFFER_LENGTH, 0);
+    }
+    refuses(SHAPE, &bright, [4, 16], Refusal::SAMPLE, 2);
 }
 
 #[test]
@@ -129,6 +143,7 @@ fn lengths_for_any_sides() {
     assert_eq!(of(20, 20).file_length(), 1024);
     assert_eq!(of(401, 1).file_length(), 1536);
     assert_eq!(of(4096, 4096).work_length(), 4 * 4096 * 4096);
+    assert_eq!(of(4096, 3).map_length(), 3 * 4096);
     for side in [0, 1, 4097, usize::MAX] {
         let shape = of(side, side);
         let mut file = vec![7; shape.file_length().min(1024)];
@@ -148,4 +163,29 @@ fn texts_and_version() {
     };
     assert_eq!(refusal.to_string(), "refused 5 9: a sample above 1023");
     assert_eq!(bayer::version(), env!("CARGO_PKG_VERSION"));
+}
+
+#[test]
+fn decisions_by_their_codes() {
+    let words = [
+        (Decision::Measured, "measured"),
+        (Decision::Equal, "equal"),
+        (Decision::StrongAcross, "strong across"),
+        (Decision::StrongDown, "strong down"),
+        (Decision::WeakAcross, "weak resolved across"),
+        (Decision::WeakDown, "weak resolved down"),
+        (Decision::WeakToMean, "weak resolved to the mean"),
+    ];
+    assert_eq!(words.map(|(decision, _)| decision), Decision::ALL);
+    for (code, (decision, text)) in (0..).zip(words) {
+        assert_eq!(Decision::from_code(code), Some(decision));
+        assert_eq!(decision.code(), code);
+        assert_eq!(decision.to_string(), text);
+        assert_eq!(decision_text(code.into()), text);
+    }
+    assert!((7..=u8::MAX).all(|code| Decision::from_code(code).is_none()));
+    let texts: std::collections::HashSet<_> = (0..=7).map(decision_text).collect();
+    assert_eq!(texts.len(), 8);
+    assert_eq!(decision_text(usize::MAX), decision_text(7));
+    assert_eq!(format!("{:>10}", Decision::Equal), "     equal");
 }
