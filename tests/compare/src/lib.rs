@@ -63,6 +63,7 @@ pub fn develop(
     red: &mut [i32],
     green: &mut [i32],
     blue: &mut [i32],
+    map: &mut [u8],
     work: &mut [i32],
 ) -> Result<(), Refusal> {
     let shape = Shape {
@@ -70,7 +71,7 @@ pub fn develop(
         height,
         phase,
     };
-    told(bayer::develop(shape, mosaic, red, green, blue, work))
+    told(bayer::develop(shape, mosaic, red, green, blue, map, work))
 }
 
 pub fn clamp(plane: &[i32], clamped: &mut [i32]) -> Result<(), Refusal> {

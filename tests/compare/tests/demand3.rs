@@ -1,4 +1,5 @@
-//! Demand 3 through the proved library: whole lists of changes, the added constant, the measured sample and the range.
+//! Demand 3 through the proved library: whole lists of changes, the added constant, the measured sample and the range; and what document
+//! 02, A1, says of the decision map.
 
 mod both;
 #[path = "../../reference/tests/common/mod.rs"]
@@ -6,12 +7,12 @@ mod common;
 
 use both::library_developed;
 use common::demand3::{
-    compare_changed, compare_measured, compare_raised, constants, extremes, list,
+    compare_changed, compare_measured, compare_raised, constants, decisions, extremes, list,
 };
 use common::{frame, Generator, KINDS};
 
 #[test]
-fn lists_of_changes_keep_the_numbers() {
+fn lists_of_changes_keep_the_numbers_and_the_map() {
     let mut generator = Generator::new(91);
     for _ in 0..1_000 {
         for kind in KINDS {
@@ -23,7 +24,7 @@ fn lists_of_changes_keep_the_numbers() {
 }
 
 #[test]
-fn an_added_constant_is_added_to_all_numbers() {
+fn an_added_constant_is_added_to_all_numbers_and_keeps_the_map() {
     let mut generator = Generator::new(92);
     for _ in 0..500 {
         for kind in KINDS {
@@ -35,6 +36,20 @@ fn an_added_constant_is_added_to_all_numbers() {
             compare_raised(library_developed, &frame, constant);
         }
     }
+}
+
+#[test]
+fn the_map_has_0_at_green_sites_alone_and_every_code_to_6() {
+    let mut generator = Generator::new(97);
+    let mut seen = [0; 7];
+    for _ in 0..100 {
+        for kind in KINDS {
+            let frame = frame(&mut generator, kind, 40);
+            let counts = decisions(library_developed, &frame);
+            seen = std::array::from_fn(|code| seen[code] + counts[code]);
+        }
+    }
+    assert!(seen.iter().all(|&count| count > 1_000), "{seen:?}");
 }
 
 #[test]

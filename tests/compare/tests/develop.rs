@@ -1,4 +1,4 @@
-//! The proved develop against the independent one: answers, and every entry of every plane.
+//! The proved develop against the independent one: answers, and every entry of every plane and of the decision map.
 
 mod both;
 #[path = "../../reference/tests/common/mod.rs"]
@@ -65,10 +65,11 @@ fn the_greatest_width_and_the_greatest_height() {
     }
 }
 
+/// And every red and blue site is strong down.
 #[test]
 fn k10_planes_equal_the_mosaic_in_every_phase() {
     for phase in 0..4 {
         let frame = edge_frame(phase);
-        assert_eq!(library_developed(&frame), grey(&frame), "phase {phase}");
+        assert_eq!(library_developed(&frame), grey(&frame, 3), "phase {phase}");
     }
 }

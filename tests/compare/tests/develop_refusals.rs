@@ -75,6 +75,28 @@ fn a_length_one_off() {
     }
 }
 
+/// Every other length of the map, with a sample too high besides, which is tested later.
+#[test]
+fn every_wrong_length_of_the_map() {
+    let seed = 89;
+    let mut generator = Generator::new(seed);
+    for _ in 0..8 {
+        let mut lent = Lent::small(&mut generator);
+        let count = lent.mosaic.len();
+        lent.mosaic[count - 1] = 1_024;
+        for length in 0..=4 * count + 1 {
+            let expected = if length == count {
+                refused(5, count - 1)
+            } else {
+                refused(4, 0)
+            };
+            let map = with(&lent, |lent| lent.map.resize(length, 7));
+            let at = format!("seed {seed}, map of {length}");
+            assert_eq!(both_develop(&at, &map), expected);
+        }
+    }
+}
+
 /// W·H that is the mosaic's length only where the product is cut to 64 bits.
 #[test]
 fn sides_whose_product_is_cut() {

@@ -24,12 +24,12 @@ fn calls_take_no_more_stack_than_the_header_says() {
         let (count, phase) = (width * height, frame.phase);
         let (mosaic, mut file) = (&frame.samples, written(&frame));
         let (mut red, mut green, mut blue) = (vec![0; count], vec![0; count], vec![0; count]);
-        let (mut work, mut samples) = (vec![0; 4 * count], vec![0; count]);
+        let (mut map, mut work) = (vec![0; count], vec![0; 4 * count]);
+        let mut samples = vec![0; count];
         let develop = depth(&mut || {
-            let planes = (&mut red, &mut green, &mut blue);
-            let (red, green, blue) = planes;
-            let answer =
-                compare::develop(width, height, phase, mosaic, red, green, blue, &mut work);
+            let answer = compare::develop(
+                width, height, phase, mosaic, &mut red, &mut green, &mut blue, &mut map, &mut work,
+            );
             assert_eq!(answer, Ok(()));
         });
         let clamp = depth(&mut || assert_eq!(compare::clamp(&red, &mut green), Ok(())));

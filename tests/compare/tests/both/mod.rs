@@ -17,12 +17,14 @@ pub fn library_develop(lent: &mut Lent, touching: Touching) -> Result<(), Refusa
     let mut red = Guarded::new(&lent.red, touching);
     let mut green = Guarded::new(&lent.green, touching);
     let mut blue = Guarded::new(&lent.blue, touching);
+    let mut map = Guarded::new(&lent.map, touching);
     let mut work = Guarded::new(&lent.work, touching);
     let (width, height, phase) = (lent.width, lent.height, lent.phase);
     let answer = compare::develop(
-        width, height, phase, &mosaic, &mut red, &mut green, &mut blue, &mut work,
+        width, height, phase, &mosaic, &mut red, &mut green, &mut blue, &mut map, &mut work,
     );
     assert!(mosaic.canaries_stand(), "beside the mosaic");
+    assert!(map.canaries_stand(), "beside the map");
     for buffer in [&red, &green, &blue, &work] {
         assert!(buffer.canaries_stand(), "beside a plane or work");
     }
@@ -30,6 +32,7 @@ pub fn library_develop(lent: &mut Lent, touching: Touching) -> Result<(), Refusa
     lent.red.copy_from_slice(&red);
     lent.green.copy_from_slice(&green);
     lent.blue.copy_from_slice(&blue);
+    lent.map.copy_from_slice(&map);
     lent.work.copy_from_slice(&work);
     answer
 }
@@ -43,6 +46,7 @@ fn reference_develop(lent: &mut Lent) -> Result<(), Refusal> {
         &mut lent.red,
         &mut lent.green,
         &mut lent.blue,
+        &mut lent.map,
         &mut lent.work,
     )
 }
@@ -90,7 +94,7 @@ pub fn both_accept(at: &str, generator: &mut Generator, frame: &Frame) {
     assert_eq!(both_develop(at, &lent), Ok(()), "{at}");
 }
 
-/// The planes that the library fills, from buffers that hold something else.
+/// The planes and the map that the library fills, from buffers that hold something else.
 pub fn library_developed(frame: &Frame) -> Developed {
     let mut lent = Lent::new(&mut Generator::new(90), frame, 0);
     let answer = library_develop(&mut lent, Touching::After);
@@ -99,5 +103,6 @@ pub fn library_developed(frame: &Frame) -> Developed {
         red: lent.red,
         green: lent.green,
         blue: lent.blue,
+        map: lent.map,
     }
 }

@@ -119,13 +119,16 @@ fn clamp(generator: &mut Generator) -> u32 {
     returned(&both_clamp(&plane, &generator.numbers(other))).0
 }
 
-/// A text for every number, one and the same for all that no call returns, and a version of three numbers.
+/// A text for every number and code, one and the same for all that no call returns and no map holds, and a version of three numbers.
 fn text(generator: &mut Generator) -> u32 {
     let any = generator.between(0, i64::MAX - 1) as usize;
     let number = generator.one_of(&[any, any % 16, any % 4_096]);
-    let text = bayer::text(number);
-    assert!(!text.is_empty() && text.is_ascii(), "{number}: {text}");
-    assert_eq!(text, bayer::text(number.min(11)), "{number}");
+    for text in [bayer::text(number), bayer::decision_text(number)] {
+        assert!(!text.is_empty() && text.is_ascii(), "{number}: {text}");
+    }
+    assert_eq!(bayer::text(number), bayer::text(number.min(11)), "{number}");
+    let same = bayer::decision_text(number.min(7));
+    assert_eq!(bayer::decision_text(number), same, "code {number}");
     let version: Vec<&str> = bayer::version().split('.').collect();
     let is_number = |part: &&str| part.parse::<u32>().is_ok();
     assert!(version.len() == 3 && version.iter().all(is_number));
