@@ -33,10 +33,11 @@ pub const PROVED: usize = 0;
 pub const OPTIMISED: usize = 1;
 pub const PLAIN: usize = 2;
 
-/// A version with its planes, and the speeds of its runs.
+/// A version with its planes and its map, and the speeds of its runs.
 struct Timed {
     version: Box<dyn Version>,
     planes: [Vec<i32>; 3],
+    map: Vec<u8>,
     speeds: Vec<f64>,
 }
 
@@ -45,6 +46,7 @@ impl Timed {
         Timed {
             version: Box::new(V::new(width, height)),
             planes: [(); 3].map(|()| vec![-1; width * height]),
+            map: vec![99; width * height],
             speeds: Vec::new(),
         }
     }
@@ -53,13 +55,15 @@ impl Timed {
     fn run(&mut self, mosaic: &[u16]) {
         let [red, green, blue] = &mut self.planes;
         let start = core_time();
-        self.version.develop(0, mosaic, [red, green, blue]);
+        self.version
+            .develop(0, mosaic, [red, green, blue], &mut self.map);
         let sites = mosaic.len() as f64;
         self.speeds.push(sites / (core_time() - start) / 1e6);
     }
 }
 
-/// Megapixels a second of the four versions on a square frame, the literal one over `literal_runs`. They must fill the same planes.
+/// Megapixels a second of the four versions on a square frame, the literal one over `literal_runs`. They must fill the same planes and the
+/// same map.
 pub fn develop_speeds(
     texture: Texture,
     side: usize,
@@ -83,6 +87,7 @@ pub fn develop_speeds(
     }
     for timed in &versions {
         assert!(timed.planes == versions[0].planes, "{texture:?}");
+        assert!(timed.map == versions[0].map, "{texture:?}");
     }
     versions.map(|timed| Spread::of(timed.speeds))
 }

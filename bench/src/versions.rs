@@ -8,8 +8,8 @@ pub trait Version {
     where
         Self: Sized;
 
-    /// Fills the planes red, green and blue from a mosaic of the size.
-    fn develop(&mut self, phase: usize, mosaic: &[u16], planes: [&mut [i32]; 3]);
+    /// Fills the planes red, green and blue and the decision map from a mosaic of the size.
+    fn develop(&mut self, phase: usize, mosaic: &[u16], planes: [&mut [i32]; 3], map: &mut [u8]);
 }
 
 /// The proved library.
@@ -29,9 +29,15 @@ impl Version for Proved {
         }
     }
 
-    fn develop(&mut self, phase: usize, mosaic: &[u16], [red, green, blue]: [&mut [i32]; 3]) {
+    fn develop(
+        &mut self,
+        phase: usize,
+        mosaic: &[u16],
+        [red, green, blue]: [&mut [i32]; 3],
+        map: &mut [u8],
+    ) {
         let (width, height, work) = (self.width, self.height, &mut self.work);
-        let answer = compare::develop(width, height, phase, mosaic, red, green, blue, work);
+        let answer = compare::develop(width, height, phase, mosaic, red, green, blue, map, work);
         assert_eq!(answer, Ok(()));
     }
 }
@@ -53,10 +59,16 @@ impl Version for Literal {
         }
     }
 
-    fn develop(&mut self, phase: usize, mosaic: &[u16], [red, green, blue]: [&mut [i32]; 3]) {
+    fn develop(
+        &mut self,
+        phase: usize,
+        mosaic: &[u16],
+        [red, green, blue]: [&mut [i32]; 3],
+        map: &mut [u8],
+    ) {
         let (width, height, work) = (self.width, self.height, &mut self.work);
         let answer =
-            reference::calls::develop(width, height, phase, mosaic, red, green, blue, work);
+            reference::calls::develop(width, height, phase, mosaic, red, green, blue, map, work);
         assert_eq!(answer, Ok(()));
     }
 }
@@ -66,8 +78,8 @@ impl Version for Plain {
         Plain::new(width, height)
     }
 
-    fn develop(&mut self, phase: usize, mosaic: &[u16], planes: [&mut [i32]; 3]) {
-        Plain::develop(self, phase, mosaic, planes);
+    fn develop(&mut self, phase: usize, mosaic: &[u16], planes: [&mut [i32]; 3], map: &mut [u8]) {
+        Plain::develop(self, phase, mosaic, planes, map);
     }
 }
 
@@ -76,7 +88,7 @@ impl Version for Optimised {
         Optimised::new(width, height)
     }
 
-    fn develop(&mut self, phase: usize, mosaic: &[u16], planes: [&mut [i32]; 3]) {
-        Optimised::develop(self, phase, mosaic, planes);
+    fn develop(&mut self, phase: usize, mosaic: &[u16], planes: [&mut [i32]; 3], map: &mut [u8]) {
+        Optimised::develop(self, phase, mosaic, planes, map);
     }
 }

@@ -1,4 +1,4 @@
-//! The plain and the optimised version against the independent implementation: every entry of every plane.
+//! The plain and the optimised version against the independent implementation: every entry of every plane and of the map.
 
 #[path = "../../tests/reference/tests/common/mod.rs"]
 mod common;
@@ -9,27 +9,28 @@ use bench::versions::Version;
 use common::{developed, frame, frame_of_sides, Developed, Generator, Kind, KINDS};
 use reference::sites::Frame;
 
-/// The planes of a version, from buffers that hold something else.
-fn planes_of(version: &mut impl Version, frame: &Frame) -> Developed {
+/// The planes and the map of a version, from buffers that hold something else.
+fn developed_by(version: &mut impl Version, frame: &Frame) -> Developed {
     let other = vec![-5_555; frame.samples.len()];
-    let mut planes = Developed {
+    let mut filled = Developed {
         red: other.clone(),
         green: other.clone(),
         blue: other,
+        map: vec![99; frame.samples.len()],
     };
     let lent = [
-        &mut planes.red[..],
-        &mut planes.green[..],
-        &mut planes.blue[..],
+        &mut filled.red[..],
+        &mut filled.green[..],
+        &mut filled.blue[..],
     ];
-    version.develop(frame.phase, &frame.samples, lent);
-    planes
+    version.develop(frame.phase, &frame.samples, lent, &mut filled.map);
+    filled
 }
 
 fn compare<V: Version>(frame: &Frame) {
     let mut version = V::new(frame.width, frame.height);
     assert!(
-        planes_of(&mut version, frame) == developed(frame),
+        developed_by(&mut version, frame) == developed(frame),
         "{frame:?}"
     );
 }
@@ -60,7 +61,7 @@ fn compare_with_used_buffers<V: Version>(seed: u64) {
     for _ in 0..60 {
         let kind = generator.one_of(&KINDS);
         let frame = frame_of_sides(&mut generator, kind, 33, 18);
-        assert!(planes_of(&mut version, &frame) == developed(&frame));
+        assert!(developed_by(&mut version, &frame) == developed(&frame));
     }
 }
 

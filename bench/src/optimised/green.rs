@@ -1,8 +1,10 @@
 //! Document 01, "Green", over half rows without a branch. Where the first pass finds a green, r_H, r_V and r_D are equal and the second
-//! pass gives that value back, so it runs at every red and blue site.
+//! pass gives that value back, so it runs at every red and blue site. Codes are as wide as the differences beside them, and formed by
+//! subtraction: chosen from, they would bring the branches back.
 
 use super::gradients::HalfGradients;
 use super::half_rows::part;
+use crate::decisions::{STRONG_DOWN, UNDECIDED, WEAK_TO_MEAN};
 
 /// gH or gV less 8·X, from X, its two green neighbours and the two samples of its colour.
 #[inline(always)]
@@ -19,7 +21,7 @@ pub struct Around<'a> {
     pub green: [&'a [u16]; 3],
 }
 
-/// The first pass of a half row: r_H, r_V and r_D.
+/// The first pass of a half row: r_H, r_V and r_D, and the codes of the sites that it decides.
 #[inline(never)]
 pub fn first_pass(
     around: Around,
@@ -27,14 +29,13 @@ pub fn first_pass(
     across: &mut [i16],
     down: &mut [i16],
     both: &mut [i16],
+    codes: &mut [u16],
 ) {
     let count = across.len();
     let (down, both) = (&mut down[..count], &mut both[..count]);
+    let codes = &mut codes[..count];
     let [x, x_above, x_below] = around.same.map(|half| part(half, 0, count));
-    let (x_west, x_east) = (
-        part(around.same[0], -1, count),
-        part(around.same[0], 1, count),
-    );
+    let [x_west, x_east] = [-1, 1].map(|first| part(around.same[0], first, count));
     let parity = around.parity as isize;
     let g_west = part(around.green[0], parity - 1, count);
     let g_east = part(around.green[0], parity, count);
@@ -55,6 +56,9 @@ pub fn first_pass(
         across[k] = if has_green { found } else { r_h };
         down[k] = if has_green { found } else { r_v };
         both[k] = if has_green { found } else { r_d };
+        // 2 where h < v, 1 where they are equal
+        let decided = u16::from(STRONG_DOWN) - u16::from(h < v) - 2 * u16::from(h == v);
+        codes[k] = if has_green { decided } else { UNDECIDED.into() };
     }
 }
 
@@ -77,10 +81,11 @@ fn distances(here: i16, others: [i16; 6]) -> i32 {
     two(0) + two(2) + two(4)
 }
 
-/// The second pass of a half row: D.
+/// The second pass of a half row: D, and the codes of the weak sites.
 #[inline(never)]
-pub fn second_pass(reach: Reach, out: &mut [i16]) {
+pub fn second_pass(reach: Reach, out: &mut [i16], codes: &mut [u16]) {
     let count = out.len();
+    let codes = &mut codes[..count];
     let steps = [-3, -2, -1, 1, 2, 3];
     let across = part(reach.across, 0, count);
     let down = part(reach.down, 0, count);
@@ -96,11 +101,16 @@ pub fn second_pass(reach: Reach, out: &mut [i16]) {
         let columns = distances(r_d, [c0[k], c1[k], c2[k], c3[k], c4[k], c5[k]]);
         let rows = distances(r_d, [d0[k], d1[k], d2[k], d3[k], d4[k], d5[k]]);
         let f_d = columns + rows;
-        let otherwise = if (f_v < f_h) & (f_v < f_d) { r_v } else { r_d };
-        out[k] = if (f_h < f_v) & (f_h < f_d) {
-            r_h
+        let (least_h, least_v) = ((f_h < f_v) & (f_h < f_d), (f_v < f_h) & (f_v < f_d));
+        let otherwise = if least_v { r_v } else { r_d };
+        out[k] = if least_h { r_h } else { otherwise };
+        // 4 where FH is the least, 5 where FV is
+        let resolved = u16::from(WEAK_TO_MEAN) - 2 * u16::from(least_h) - u16::from(least_v);
+        let first = codes[k];
+        codes[k] = if first == UNDECIDED.into() {
+            resolved
         } else {
-            otherwise
+            first
         };
     }
 }

@@ -30,6 +30,8 @@ pub struct Optimised {
     across: HalfRows<i16>,
     down: HalfRows<i16>,
     both: HalfRows<i16>,
+    /// Codes of the decision map
+    codes: HalfRows<u16>,
     /// D
     differences: HalfRows<i16>,
     /// In quarters, at red and blue sites: green minus the measured colour, and green minus the other one.
@@ -49,6 +51,7 @@ impl Optimised {
             across: HalfRows::new(width),
             down: HalfRows::new(width),
             both: HalfRows::new(width),
+            codes: HalfRows::new(width),
             differences: HalfRows::new(width),
             own: HalfRows::new(width),
             other: HalfRows::new(width),
@@ -56,8 +59,14 @@ impl Optimised {
         }
     }
 
-    /// Fills the planes red, green and blue from a mosaic of the size.
-    pub fn develop(&mut self, phase: usize, mosaic: &[u16], planes: [&mut [i32]; 3]) {
+    /// Fills the planes red, green and blue and the decision map from a mosaic of the size.
+    pub fn develop(
+        &mut self,
+        phase: usize,
+        mosaic: &[u16],
+        planes: [&mut [i32]; 3],
+        map: &mut [u8],
+    ) {
         let sites = Sites {
             width: self.width,
             height: self.height,
@@ -76,7 +85,7 @@ impl Optimised {
                 self.run_first_pass(sites, row);
             }
             if let Some(row) = due(SECOND) {
-                self.run_second_pass(sites, row);
+                self.run_second_pass(sites, row, &mut map[sites.of_row(row)]);
             }
             if let Some(row) = due(ENHANCE) {
                 self.enhance(sites, row);

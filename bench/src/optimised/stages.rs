@@ -4,6 +4,7 @@ use super::differences::{fill_chroma_sites, fill_green_sites, form_other, form_o
 use super::green::{first_pass, second_pass, Around, Reach};
 use super::half_rows::{columns, part_mut, MARGIN};
 use super::Optimised;
+use crate::decisions::MEASURED;
 use crate::sites::Sites;
 
 /// Two half rows, column by column.
@@ -31,6 +32,24 @@ fn weave_sites<C: Copy + Into<i32>, G: Copy + Into<i32>>(
         weave(chroma, green, out);
     } else {
         weave(green, chroma, out);
+    }
+}
+
+/// A row of the map: the codes of the half row of red and blue sites, and 0, measured, at the green sites.
+#[inline(never)]
+fn weave_codes(codes: &[u16], parity: usize, map: &mut [u8]) {
+    let codes = &codes[MARGIN..];
+    let pairs = map.len() / 2;
+    // a code and the 0 beside it, in the order of their columns
+    for (pair, &code) in map.chunks_exact_mut(2).zip(&codes[..pairs]) {
+        pair.copy_from_slice(&(code << (8 * parity)).to_le_bytes());
+    }
+    if let [last] = map.chunks_exact_mut(2).into_remainder() {
+        *last = if parity == 0 {
+            codes[pairs] as u8
+        } else {
+            MEASURED
+        };
     }
 }
 
@@ -63,12 +82,14 @@ impl Optimised {
         let across = part_mut(self.across.half_mut(row, parity), 0, count);
         let down = part_mut(self.down.half_mut(row, parity), 0, count);
         let both = part_mut(self.both.half_mut(row, parity), 0, count);
-        first_pass(around, self.gradients.half(row, parity), across, down, both);
+        let codes = part_mut(self.codes.half_mut(row, parity), 0, count);
+        let gradients = self.gradients.half(row, parity);
+        first_pass(around, gradients, across, down, both, codes);
         self.across.reflect(row, parity);
         self.both.reflect(row, parity);
     }
 
-    pub(super) fn run_second_pass(&mut self, sites: Sites, row: isize) {
+    pub(super) fn run_second_pass(&mut self, sites: Sites, row: isize, map: &mut [u8]) {
         let parity = sites.first_chroma(row);
         let rows = [-6, -4, -2, 2, 4, 6].map(|off| sites.reflected_row(row + off));
         let reach = Reach {
@@ -78,8 +99,11 @@ impl Optimised {
             down_rows: rows.map(|row| self.down.half(row, parity)),
             both_rows: rows.map(|row| self.both.half(row, parity)),
         };
-        let out = self.differences.half_mut(row, parity);
-        second_pass(reach, part_mut(out, 0, columns(sites.width, parity)));
+        let count = columns(sites.width, parity);
+        let out = part_mut(self.differences.half_mut(row, parity), 0, count);
+        let codes = self.codes.half_mut(row, parity);
+        second_pass(reach, out, part_mut(codes, 0, count));
+        weave_codes(codes, parity, map);
         self.differences.reflect(row, parity);
     }
 

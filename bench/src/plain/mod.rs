@@ -40,8 +40,14 @@ impl Plain {
         }
     }
 
-    /// Fills the planes red, green and blue from a mosaic of the size.
-    pub fn develop(&mut self, phase: usize, mosaic: &[u16], planes: [&mut [i32]; 3]) {
+    /// Fills the planes red, green and blue and the decision map from a mosaic of the size.
+    pub fn develop(
+        &mut self,
+        phase: usize,
+        mosaic: &[u16],
+        planes: [&mut [i32]; 3],
+        map: &mut [u8],
+    ) {
         let sites = Sites {
             width: self.width,
             height: self.height,
@@ -50,8 +56,9 @@ impl Plain {
         self.take_samples(mosaic);
         self.gradients.form_east(&self.samples);
         self.gradients.form_south(&self.samples);
-        self.first_pass.run(sites, &self.samples, &self.gradients);
-        self.form_differences(sites);
+        self.first_pass
+            .run(sites, &self.samples, &self.gradients, map);
+        self.form_differences(sites, map);
         self.form_own(sites);
         self.form_other(sites);
         self.output_rows(sites, planes);
@@ -67,10 +74,11 @@ impl Plain {
         self.samples.reflect();
     }
 
-    fn form_differences(&mut self, sites: Sites) {
+    fn form_differences(&mut self, sites: Sites, map: &mut [u8]) {
         for row in 0..self.height as isize {
             let differences = self.differences.inner_mut(row);
-            self.first_pass.differences(sites, row, differences);
+            let codes = &mut map[sites.of_row(row)];
+            self.first_pass.differences(sites, row, differences, codes);
         }
         self.differences.reflect();
     }
