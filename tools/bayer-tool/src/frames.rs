@@ -2,7 +2,7 @@
 
 use crate::output;
 use crate::problem::Problem;
-use bayer::{Refusal, Shape, SIDES};
+use bayer::{Decision, Refusal, Shape, SIDES};
 use reference::sites::Frame;
 use std::fs::File;
 use std::io::{self, Read};
@@ -75,10 +75,11 @@ pub fn admitted(width: usize, height: usize) -> Result<(), Refusal> {
     bayer::write(shape, &[], &mut [])
 }
 
-/// The planes that the library fills, unclamped.
-pub fn developed(frame: &Frame) -> Result<Planes, Refusal> {
+/// The planes, unclamped, and the decision map that the library fills.
+fn filled(frame: &Frame) -> Result<(Planes, Vec<u8>), Refusal> {
     let shape = shape(frame);
     let [mut red, mut green, mut blue] = [(); 3].map(|()| vec![0; shape.plane_length()]);
+    let mut map = vec![0; shape.map_length()];
     let mut work = vec![0; shape.work_length()];
     bayer::develop(
         shape,
@@ -86,7 +87,20 @@ pub fn developed(frame: &Frame) -> Result<Planes, Refusal> {
         &mut red,
         &mut green,
         &mut blue,
+        &mut map,
         &mut work,
     )?;
-    Ok([red, green, blue])
+    Ok(([red, green, blue], map))
+}
+
+/// The planes that the library fills, unclamped.
+pub fn developed(frame: &Frame) -> Result<Planes, Refusal> {
+    filled(frame).map(|(planes, _)| planes)
+}
+
+/// How the library decided the green of each site, in raster order.
+pub fn decisions(frame: &Frame) -> Result<Vec<Decision>, Refusal> {
+    let (_, map) = filled(frame)?;
+    let decision = |code| Decision::from_code(code).expect("a code of the library's map");
+    Ok(map.into_iter().map(decision).collect())
 }

@@ -3,6 +3,7 @@
 pub mod arguments;
 pub mod bordered;
 pub mod commands;
+pub mod decision_map;
 pub mod frames;
 pub mod glaze;
 pub mod netpbm;
@@ -17,6 +18,7 @@ use std::ffi::OsString;
 
 const USAGE: &str = "\
 usage: bayer-tool show FRAME PICTURE                       a frame file, developed, as .ppm or .png
+       bayer-tool show --map FRAME PICTURE                 how the green of each site was decided, one colour for each code
        bayer-tool frame IMAGE FRAME --phase P [--unscaled]  a PGM, or a PPM masked to the mosaic, as a frame file
        bayer-tool facts FRAME                              size, phase, range, and how many sites tie
        bayer-tool turned [--frame FRAME | --size WxH] [--picture PICTURE] CHANGE ..

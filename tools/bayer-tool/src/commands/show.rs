@@ -1,7 +1,10 @@
-//! show FRAME PICTURE: the developed and clamped frame, each number of 0..1,023 as the nearest of 0..255.
+//! show FRAME PICTURE: the developed and clamped frame, each number of 0..1,023 as the nearest of 0..255; with --map how the green of each
+//! site was decided, and its legend printed.
 
 use crate::arguments::Arguments;
+use crate::decision_map;
 use crate::frames::{self, Planes};
+use crate::output;
 use crate::picture::{Kind, Picture};
 use crate::problem::Problem;
 use crate::progress::Progress;
@@ -30,14 +33,27 @@ pub fn picture(frame: &Frame) -> Result<Picture, Refusal> {
     Ok(Picture::form(width, height, at))
 }
 
+/// The picture of the decision map, and the text that tells its colours.
+fn map_and_legend(frame: &Frame) -> Result<(Picture, String), Refusal> {
+    let decisions = frames::decisions(frame)?;
+    let picture = decision_map::picture(frame.width, &decisions);
+    Ok((picture, decision_map::legend(&decisions)))
+}
+
 pub fn run(words: &[String]) -> Result<(), Problem> {
-    let arguments = Arguments::parse(words, &[], &[])?;
+    let arguments = Arguments::parse(words, &[], &["--map"])?;
     let [from, to] = arguments.exactly(["FRAME", "PICTURE"])?;
     let kind = Kind::of(to)?;
     let frame = frames::load(from)?;
     let progress = Progress::of(frame.samples.len());
     progress.step("developing");
-    let picture = picture(&frame).map_err(|why| Problem::Refused(from.into(), why))?;
+    let shown = if arguments.flag("--map") {
+        map_and_legend(&frame)
+    } else {
+        picture(&frame).map(|picture| (picture, String::new()))
+    };
+    let (picture, legend) = shown.map_err(|why| Problem::Refused(from.into(), why))?;
     progress.step("writing the picture");
-    picture.save(kind, to)
+    picture.save(kind, to)?;
+    output::print(&legend)
 }
