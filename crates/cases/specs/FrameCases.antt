@@ -1,5 +1,5 @@
 -- Whole planes and decision maps of two frames: K10's, whose planes document 01 tells, and a larger frame rich in weak sites, whose
--- planes are as the independent implementation in tests/reference develops it. Computed by stages. Assumes nothing.
+-- planes and map are as the independent implementation in tests/reference develops it. Computed by stages. Assumes nothing.
 use mathlib.Core.Path.{_≡_, refl}
 use mathlib.Core.List.{List, [], _∷_, _++_}
 use Prim.Native.Nat.{ℕ}

@@ -14,11 +14,12 @@ use Rattle.positions.specs.RingLaws.{ring-apart}
 use Rattle.records.specs.Held.{Stands}
 use Rattle.records.specs.Turns.{Turned}
 
-pub held-none : {A : Type 0} {d : A} {place : ℕ → ℕ} {s o lo hi : ℕ} {n : ℕ → ℕ} {q : ℕ → ℕ → A} {buffer : List A} → hi ≤ lo → Stands d place s o n lo hi q buffer
+pub held-none : {A : Type 0} {d : A} {place : ℕ → ℕ} {s o lo hi : ℕ} {n : ℕ → ℕ} {q : ℕ → ℕ → A} {buffer : List A} → hi ≤ lo
+    → Stands d place s o n lo hi q buffer
 held-none h = record { row = λ r a b k l. absurd (omega arith) }
 
-pub held-part : {A : Type 0} {d : A} {place : ℕ → ℕ} {s o lo hi lo' hi' : ℕ} {n : ℕ → ℕ} {q : ℕ → ℕ → A} {buffer : List A} → Stands d place s o n lo hi q buffer
-    → lo ≤ lo' → hi' ≤ hi → Stands d place s o n lo' hi' q buffer
+pub held-part : {A : Type 0} {d : A} {place : ℕ → ℕ} {s o lo hi lo' hi' : ℕ} {n : ℕ → ℕ} {q : ℕ → ℕ → A} {buffer : List A}
+    → Stands d place s o n lo hi q buffer → lo ≤ lo' → hi' ≤ hi → Stands d place s o n lo' hi' q buffer
 held-part h a b = record { row = λ r x y. h .row r (omega arith) (omega arith) }
 
 pub turn-made : {A : Type 0} {d : A} {place : ℕ → ℕ} {H L t s o : ℕ} {n : ℕ → ℕ} {q : ℕ → ℕ → A} {old new : List A} → L ≤ t → t < H + L
@@ -31,10 +32,12 @@ pub turn-front : {A : Type 0} {d : A} {place : ℕ → ℕ} {H L t s : ℕ} {n :
 turn-front {A} {d} {place} {H} {L} {t} {s} {n} {q} {old} {new} a b w =
     turn-made a b (subst (λ (x : ℕ). Wrote d x (n (t - L)) (q (t - L)) old new) {x = place (t - L) * s} (omega arith) w)
 
-pub turn-early : {A : Type 0} {d : A} {place : ℕ → ℕ} {H L t s o : ℕ} {n : ℕ → ℕ} {q : ℕ → ℕ → A} {old : List A} → t < L → Turned d place H L t s o n q old old
+pub turn-early : {A : Type 0} {d : A} {place : ℕ → ℕ} {H L t s o : ℕ} {n : ℕ → ℕ} {q : ℕ → ℕ → A} {old : List A} → t < L
+    → Turned d place H L t s o n q old old
 turn-early a = record { here = λ x y. absurd (omega arith); early = λ x. refl; late = λ x. refl }
 
-pub turn-late : {A : Type 0} {d : A} {place : ℕ → ℕ} {H L t s o : ℕ} {n : ℕ → ℕ} {q : ℕ → ℕ → A} {old : List A} → H + L ≤ t → Turned d place H L t s o n q old old
+pub turn-late : {A : Type 0} {d : A} {place : ℕ → ℕ} {H L t s o : ℕ} {n : ℕ → ℕ} {q : ℕ → ℕ → A} {old : List A} → H + L ≤ t
+    → Turned d place H L t s o n q old old
 turn-late a = record { here = λ x y. absurd (omega arith); early = λ x. refl; late = λ x. refl }
 
 -- a store within place a leaves what stands at place b
@@ -61,7 +64,8 @@ own-clear lo m r a b e = omega arith
 ring-clear : (lo m : ℕ) → m < lo + 24 → Clear place-in-ring lo m
 ring-clear lo m h r a b = ring-apart r m b (omega arith)
 
-module _ {A : Type 0} {d : A} {place : ℕ → ℕ} {H L t s o : ℕ} {n : ℕ → ℕ} {q : ℕ → ℕ → A} {old new : List A} (turn : Turned d place H L t s o n q old new) where
+module _ {A : Type 0} {d : A} {place : ℕ → ℕ} {H L t s o : ℕ} {n : ℕ → ℕ} {q : ℕ → ℕ → A} {old new : List A}
+    (turn : Turned d place H L t s o n q old new) where
   -- either the row is stored, or nothing is changed and no row is due
   turned : (P : List A → Type 0) → (min (t + 1 - L) H ≡ min (t - L) H → P old)
       → (L ≤ t → t < H + L → Wrote d (place (t - L) * s + o) (n (t - L)) (q (t - L)) old new → P new) → P new
@@ -129,19 +133,22 @@ module _ {A : Type 0} {d : A} {place : ℕ → ℕ} {H L t s o : ℕ} {n : ℕ �
 
 -- ---- in a ring: the stage's own rows, the last 24 of them
 
-pub ring-next : {A : Type 0} {d : A} {H L t s o : ℕ} {n : ℕ → ℕ} {q : ℕ → ℕ → A} {old new : List A} → Turned d place-in-ring H L t s o n q old new → ((r : ℕ) → o + n r ≤ s)
-    → Stands d place-in-ring s o n (min (t - L) H - 24) (min (t - L) H) q old → Stands d place-in-ring s o n (min (t + 1 - L) H - 24) (min (t + 1 - L) H) q new
+pub ring-next : {A : Type 0} {d : A} {H L t s o : ℕ} {n : ℕ → ℕ} {q : ℕ → ℕ → A} {old new : List A}
+    → Turned d place-in-ring H L t s o n q old new → ((r : ℕ) → o + n r ≤ s)
+    → Stands d place-in-ring s o n (min (t - L) H - 24) (min (t - L) H) q old
+    → Stands d place-in-ring s o n (min (t + 1 - L) H - 24) (min (t + 1 - L) H) q new
 ring-next turn fit h = one-more turn fit (λ a b. ring-clear _ _ (omega arith)) (held-part h (omega arith) (omega arith))
 
 -- ---- where each row has a place of its own
 
 -- the stage's own rows
-pub turn-next : {A : Type 0} {d : A} {H L t s o lo : ℕ} {n : ℕ → ℕ} {q : ℕ → ℕ → A} {old new : List A} → Turned d own H L t s o n q old new → ((r : ℕ) → o + n r ≤ s)
+pub turn-next : {A : Type 0} {d : A} {H L t s o lo : ℕ} {n : ℕ → ℕ} {q : ℕ → ℕ → A} {old new : List A}
+    → Turned d own H L t s o n q old new → ((r : ℕ) → o + n r ≤ s)
     → Stands d own s o n lo (min (t - L) H) q old → Stands d own s o n lo (min (t + 1 - L) H) q new
 turn-next turn fit = one-more turn fit (λ a b. own-clear _ _)
 
-module _ {A : Type 0} {d : A} {H L t s o : ℕ} {n : ℕ → ℕ} {q : ℕ → ℕ → A} {old new : List A} (turn : Turned d own H L t s o n q old new) (fit : (r : ℕ) → o + n r ≤ s)
-    {o' hi : ℕ} {n' : ℕ → ℕ} {p : ℕ → ℕ → A} (fit' : (r : ℕ) → o' + n' r ≤ s) where
+module _ {A : Type 0} {d : A} {H L t s o : ℕ} {n : ℕ → ℕ} {q : ℕ → ℕ → A} {old new : List A}
+    (turn : Turned d own H L t s o n q old new) (fit : (r : ℕ) → o + n r ≤ s) {o' hi : ℕ} {n' : ℕ → ℕ} {p : ℕ → ℕ → A} (fit' : (r : ℕ) → o' + n' r ≤ s) where
   -- rows that the stage has left behind
   pub turn-past : {lo : ℕ} → hi ≤ t - L → Stands d own s o' n' lo hi p old → Stands d own s o' n' lo hi p new
   turn-past past = turn-apart turn fit fit' (λ r x y a b. inl (λ e. omega arith))

@@ -66,8 +66,10 @@ module _ (f : Frame) (i : ℕ) (diagonals verticals fh fv fd : List ℤ) (map co
       let p : j % 2 ≡ c = eqb-eq _ _ t in
       let q : start + 2 * (j / 2) ≡ j = omega (arith, chroma-small (f .phase) i) in
       let l : j / 2 < (f .width + 1 - start) / 2 = omega (arith, chroma-small (f .phase) i) in
+      let chroma : is-green (colour (f .phase) i j) ≡ false =
+      ap is-green (chroma-colour (f .phase) i j (p ∙ e)) ∙ row-not-green (f .phase) i in
       rw t (code-at (j / 2) l ∙ ap (λ (n : ℕ). decision-code (chroma-decision-at (mosaic f) i n)) q
-      ∙ ap decision-code (sym (chroma-stands (colour (f .phase) i j) (chroma-decision-at (mosaic f) i j) (ap is-green (chroma-colour (f .phase) i j (p ∙ e)) ∙ row-not-green (f .phase) i)))))
+      ∙ ap decision-code (sym (chroma-stands (colour (f .phase) i j) (chroma-decision-at (mosaic f) i j) chroma))))
       (λ t. let n : ¬ (j % 2 ≡ c) = eqb-ne t in
       rw (t, second-half-green (f .phase) i j (λ g. n (g ∙ sym e))))
 

@@ -50,13 +50,15 @@ module _ {A : Type 0} (FH FV FD : ℤ) (x y z : A) where
   picked-third e f = rw (e, f)
 
 -- of numbers as they were read
-pub picked-read : {A : Type 0} {FH FV FD a b c : ℤ} {x y z d e f : A} → a ≡ FH → b ≡ FV → c ≡ FD → d ≡ x → e ≡ y → f ≡ z → picked a b c d e f ≡ picked FH FV FD x y z
+pub picked-read : {A : Type 0} {FH FV FD a b c : ℤ} {x y z d e f : A} → a ≡ FH → b ≡ FV → c ≡ FD → d ≡ x → e ≡ y → f ≡ z
+    → picked a b c d e f ≡ picked FH FV FD x y z
 picked-read p q r s t u = rw (p, q, r, s, t, u)
 
 -- ---- what is picked
 
 -- by the least sum
-picked-is : {A : Type 0} (r : Direction → A) (a b c : ℕ) → picked (pos a) (pos b) (pos c) (r horizontal) (r vertical) (r diagonal) ≡ r (least-sum a b c)
+picked-is : {A : Type 0} (r : Direction → A) (a b c : ℕ)
+    → picked (pos a) (pos b) (pos c) (r horizontal) (r vertical) (r diagonal) ≡ r (least-sum a b c)
 unfolding picked least-sum
 picked-is r a b c = by-tests (ltb a b && ltb a c) (ltb b a && ltb b c)
   where
@@ -80,7 +82,8 @@ unfolding greens trials green-difference trial-difference
 green-is f i j = ap (λ (g : ℤ). less-eight g (mosaic f .sample-at i j)) (green-is-decided (mosaic f) i j)
 
 -- what is picked by the sums of a row is that of the direction that the second pass takes
-pub picked-as : {A : Type 0} (f : Frame) (i : ℕ) (fh fv fd : List ℤ) → Sums f 3 i fh fv fd → (r : Direction → A) (x : ℕ) → 4 ≤ x → x < chroma-count f i + 4
+pub picked-as : {A : Type 0} (f : Frame) (i : ℕ) (fh fv fd : List ℤ) → Sums f 3 i fh fv fd → (r : Direction → A) (x : ℕ)
+    → 4 ≤ x → x < chroma-count f i + 4
     → picked (pos 2 *ℤ getD fh x (pos 0)) (pos 2 *ℤ getD fv x (pos 0)) (getD fd x (pos 0)) (r horizontal) (r vertical) (r diagonal)
     ≡ r (second-pass-at (mosaic f) i (chroma-start (f .phase) i + 2 * (x - 4)))
 unfolding reach

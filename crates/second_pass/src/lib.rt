@@ -142,7 +142,7 @@ fn second_row(
 }
 
 // A code where a column has the parity of the red and blue sites, and 0, measured, at a green one.
-fn shown(code: u8, parity: usize, c: usize) -> u8
+fn column_code(code: u8, parity: usize, c: usize) -> u8
     ensures { λ r. ⌜ r ≡ cond (eqb parity c) code 0 ⌝ }
 {
     if parity == c { code } else { 0 }
@@ -156,12 +156,12 @@ fn map_row(codes: &[u8; 2048], map: &mut [u8], at: usize, c: usize, w: usize)
     let mut k = 0;
     while k < w / 2 {
         let code = codes[k];
-        map[at + 2 * k] = shown(code, 0, c);
-        map[at + (2 * k + 1)] = shown(code, 1, c);
+        map[at + 2 * k] = column_code(code, 0, c);
+        map[at + (2 * k + 1)] = column_code(code, 1, c);
         k += 1;
     }
     if w % 2 == 1 {
-        map[at + (w - 1)] = shown(codes[w / 2], 0, c);
+        map[at + (w - 1)] = column_code(codes[w / 2], 0, c);
     }
 }
 

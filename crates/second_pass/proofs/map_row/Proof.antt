@@ -22,8 +22,8 @@ loop-holds c = (omega arith, refl, wrote-as wrote-none (omega arith) (λ j h. re
 element-copy-out-code : tie.Need-element-copy-out-code Inv-loop μ-loop
 element-copy-out-code c = search needs
 
-shown-requires : tie.Need-shown-requires Inv-loop μ-loop
-shown-requires c κs = search needs
+column-code-requires : tie.Need-column-code-requires Inv-loop μ-loop
+column-code-requires c κs = search needs
 
 mul-map : tie.Need-mul-map Inv-loop μ-loop
 mul-map c = search needs
@@ -34,8 +34,8 @@ add-map c = search needs
 slice-write-map : tie.Need-slice-write-map Inv-loop μ-loop
 slice-write-map c = search needs
 
-shown-requires-2 : tie.Need-shown-requires-2 Inv-loop μ-loop
-shown-requires-2 c κs = search needs
+column-code-requires-2 : tie.Need-column-code-requires-2 Inv-loop μ-loop
+column-code-requires-2 c κs = search needs
 
 mul-map-2 : tie.Need-mul-map-2 Inv-loop μ-loop
 mul-map-2 c = search needs
@@ -62,14 +62,14 @@ loop-again c =
     let inv = at-loop .loop .inv in (
       omega arith,
       simp length-set (omega arith),
-      map-step (a .c) (a .codes .now) (at-loop .loop .k) _ _ (inv .2) refl (omega arith) (c .before .shown .ensures) (c .shown2 .ensures) refl,
+      map-step (a .c) (a .codes .now) (at-loop .loop .k) _ _ (inv .2) refl (omega arith) (c .before .column-code .ensures) (c .column-code2 .ensures) refl,
     )
 
-element-copy-out-shown : tie.Need-element-copy-out-shown Inv-loop μ-loop
-element-copy-out-shown c = search needs
+element-copy-out-column-code : tie.Need-element-copy-out-column-code Inv-loop μ-loop
+element-copy-out-column-code c = search needs
 
-shown-requires-3 : tie.Need-shown-requires-3 Inv-loop μ-loop
-shown-requires-3 c κs = search needs
+column-code-requires-3 : tie.Need-column-code-requires-3 Inv-loop μ-loop
+column-code-requires-3 c κs = search needs
 
 sub-map : tie.Need-sub-map Inv-loop μ-loop
 sub-map c = search needs
@@ -89,7 +89,7 @@ returns c =
     let a = at-loop .before .before .args in
     let odd : 2 * at-loop .loop .k ≡ a .w - 1 = omega arith in
     wrote-as (wrote-next (wrote-as (at-loop .loop .inv .2) odd (λ j h. refl)) (omega arith)
-    (c .shown3 .ensures ∙ map-even (a .c) (a .codes .now) (a .w - 1) (a .w / 2) (omega arith)))
+    (c .column-code3 .ensures ∙ map-even (a .c) (a .codes .now) (a .w - 1) (a .w / 2) (omega arith)))
     (omega arith) (λ j h. refl)
 
 same-length-2 : tie.Need-same-length-2 Inv-loop μ-loop
@@ -106,11 +106,11 @@ map-row-spec =
     μ-loop
     loop-holds
     element-copy-out-code
-    shown-requires
+    column-code-requires
     mul-map
     add-map
     slice-write-map
-    shown-requires-2
+    column-code-requires-2
     mul-map-2
     add-map-2
     add-map-3
@@ -118,8 +118,8 @@ map-row-spec =
     add-k
     loop-less
     loop-again
-    element-copy-out-shown
-    shown-requires-3
+    element-copy-out-column-code
+    column-code-requires-3
     sub-map
     add-map-4
     slice-write-map-3
