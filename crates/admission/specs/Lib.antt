@@ -1,4 +1,4 @@
 pub mod ShapeTest
 pub mod InOrder
 pub mod Allowed
-pub mod Highest
+pub mod Extremes

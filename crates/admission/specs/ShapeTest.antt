@@ -5,7 +5,7 @@ use lib.Dec.{eqb}
 use Rattle.frame.specs.declared.Shape.{Shape}
 use Rattle.frame.specs.declared.Refusal.the-variants.{Size, Phase, MosaicLength}
 use Rattle.frame.specs.declared.Answer.{Answer}
-use Rattle.frame.specs.declared.Answer.the-variants.{Done, Refused}
+use Rattle.frame.specs.declared.Answer.the-variants.{Done}
 use Rattle.frame.specs.Sites.{side-allowed, phase-allowed}
 use Rattle.frame.specs.Calls.{tested}
 
@@ -13,14 +13,11 @@ use Rattle.frame.specs.Calls.{tested}
 unfoldable pub shape-allowed : Shape → Bool
 shape-allowed shape = side-allowed (shape .width) && (side-allowed (shape .height) && phase-allowed (shape .phase))
 
--- numbers 1, 2 and 3, in this order, for a mosaic of the given length
-unfoldable pub shape-answer : Shape → ℕ → Answer
-shape-answer shape mosaic-length =
-    tested (side-allowed (shape .width) && side-allowed (shape .height)) Size
-    (tested (phase-allowed (shape .phase)) Phase
-    (tested (eqb mosaic-length (shape .height * shape .width)) MosaicLength Done))
+-- numbers 1 and 2, in this order
+unfoldable pub shape-answer : Shape → Answer
+shape-answer shape =
+    tested (side-allowed (shape .width) && side-allowed (shape .height)) Size (tested (phase-allowed (shape .phase)) Phase Done)
 
--- the first refusal of two answers
-abbrev pub and-then : Answer → Answer → Answer
-and-then Done rest = rest
-and-then (Refused why) rest = Refused why
+-- number 3, for a mosaic of the given length
+unfoldable pub count-answer : Shape → ℕ → Answer
+count-answer shape mosaic-length = tested (eqb mosaic-length (shape .height * shape .width)) MosaicLength Done

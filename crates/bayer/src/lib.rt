@@ -104,11 +104,12 @@ pub extern "C" fn bayer_clamp(plane: &[i32], clamped: &mut [i32]) -> Returned
     export_answer(clamp::clamp(plane, clamped))
 }
 
-// Develops a frame into three planes and the decision map, of W·H entries each, with a work buffer of 4·W·H entries or more, which may
-// hold anything after success.
+// Develops a frame at a black level into three planes and the decision map, of W·H entries each, with a work buffer of 4·W·H entries or
+// more, which may hold anything after success.
 #[no_mangle]
 pub extern "C" fn bayer_develop(
     shape: Shape,
+    black: usize,
     mosaic: &[u16],
     red: &mut [i32],
     green: &mut [i32],
@@ -116,23 +117,23 @@ pub extern "C" fn bayer_develop(
     map: &mut [u8],
     work: &mut [i32],
 ) -> Returned
-    ensures answer { λ r. ⌜ Exported (develop-answer (frame-of shape (now (mosaic .entry)))
+    ensures answer { λ r. ⌜ Exported (develop-answer (frame-of shape (now (mosaic .entry))) black
         (lengths (now (red .entry)) (now (green .entry)) (now (blue .entry)) (now (map .entry)) (now (work .entry)))) r ⌝ }
-    ensures red_left { λ _. ⌜ now (red .exit) ≡ after (develop-answer (frame-of shape (now (mosaic .entry)))
+    ensures red_left { λ _. ⌜ now (red .exit) ≡ after (develop-answer (frame-of shape (now (mosaic .entry))) black
         (lengths (now (red .entry)) (now (green .entry)) (now (blue .entry)) (now (map .entry)) (now (work .entry))))
-        (plane (frame-of shape (now (mosaic .entry))) Colour.red) (now (red .entry)) ⌝ }
-    ensures green_left { λ _. ⌜ now (green .exit) ≡ after (develop-answer (frame-of shape (now (mosaic .entry)))
+        (plane (frame-of shape (now (mosaic .entry))) black Colour.red) (now (red .entry)) ⌝ }
+    ensures green_left { λ _. ⌜ now (green .exit) ≡ after (develop-answer (frame-of shape (now (mosaic .entry))) black
         (lengths (now (red .entry)) (now (green .entry)) (now (blue .entry)) (now (map .entry)) (now (work .entry))))
-        (plane (frame-of shape (now (mosaic .entry))) Colour.green) (now (green .entry)) ⌝ }
-    ensures blue_left { λ _. ⌜ now (blue .exit) ≡ after (develop-answer (frame-of shape (now (mosaic .entry)))
+        (plane (frame-of shape (now (mosaic .entry))) black Colour.green) (now (green .entry)) ⌝ }
+    ensures blue_left { λ _. ⌜ now (blue .exit) ≡ after (develop-answer (frame-of shape (now (mosaic .entry))) black
         (lengths (now (red .entry)) (now (green .entry)) (now (blue .entry)) (now (map .entry)) (now (work .entry))))
-        (plane (frame-of shape (now (mosaic .entry))) Colour.blue) (now (blue .entry)) ⌝ }
-    ensures map_left { λ _. ⌜ now (map .exit) ≡ after (develop-answer (frame-of shape (now (mosaic .entry)))
+        (plane (frame-of shape (now (mosaic .entry))) black Colour.blue) (now (blue .entry)) ⌝ }
+    ensures map_left { λ _. ⌜ now (map .exit) ≡ after (develop-answer (frame-of shape (now (mosaic .entry))) black
         (lengths (now (red .entry)) (now (green .entry)) (now (blue .entry)) (now (map .entry)) (now (work .entry))))
         (decision-map (frame-of shape (now (mosaic .entry)))) (now (map .entry)) ⌝ }
-    ensures work_left { λ _. ⌜ Kept-on-refusal (develop-answer (frame-of shape (now (mosaic .entry)))
+    ensures work_left { λ _. ⌜ Kept-on-refusal (develop-answer (frame-of shape (now (mosaic .entry))) black
         (lengths (now (red .entry)) (now (green .entry)) (now (blue .entry)) (now (map .entry)) (now (work .entry))))
         (now (work .entry)) (now (work .exit)) ⌝ }
 {
-    export_answer(develop::develop(shape, mosaic, red, green, blue, map, work))
+    export_answer(develop::develop(shape, black, mosaic, red, green, blue, map, work))
 }

@@ -11,7 +11,7 @@ use Rattle.frame.specs.Sites.{Frame, sample, highest-sample, red, green, blue, 
 use Rattle.frame.specs.Calls.{held, clamped}
 use Rattle.method.specs.Gradients.{FourDirections, mosaic, apart, taps, six-tap, six-tap-pair, eastbound, east-gradient, west-gradient, gradients, gradients-at}
 use Rattle.method.specs.Green.{horizontal, diagonal, line-estimate, horizontal-estimate, half, estimate, threshold, strong-down, weak, outcome, first-pass, outcome-at, first-pass-or, green-or, less-eight, trial-difference, reach, sum-about, column-sum, horizontal-sum, vertical-sum, diagonal-sum, least-sum, second-pass, second-pass-at, chroma-decision-at, green-at}
-use Rattle.method.specs.Planes.{inner-round, one-if-zero, count-zeros, weight, weights, times, sum-of-four, weighted-sum, total, weighted-mean, green-difference, straight, mean-two-off, fusion-share, fused, final-difference, corners, diagonally, corner-gradients, chroma-site-difference, colour-difference, green-quarters, quarters, final-round, output, plane}
+use Rattle.method.specs.Planes.{inner-round, one-if-zero, count-zeros, weight, weights, times, sum-of-four, weighted-sum, total, weighted-mean, green-difference, straight, mean-two-off, fusion-share, fused, final-difference, corners, diagonally, corner-gradients, chroma-site-difference, colour-difference, green-quarters, quarters, final-round, output, less-black, plane}
 use Rattle.frame_file.specs.Lists.{zeros, joined}
 use Rattle.frame_file.specs.FrameFile as File
 use Rattle.printing.specs.Printing.{digits, decimal, numbers-line, heading, clamped-at, site-text, frame-text}
@@ -20,7 +20,7 @@ abbrev four : {X : Type 0} → X → X → X → X → FourDirections X
 four e w s n = record { east = e; west = w; south = s; north = n }
 
 -- "the frame above": W = H = 2, p = 0, samples 100 40 61 200
-abbrev small-frame : Frame
+abbrev pub small-frame : Frame
 small-frame = record { width = 2; height = 2; phase = 0; samples = 100 ∷ 40 ∷ 61 ∷ 200 ∷ [] }
 
 -- "8 rows of 0 0 0 0 800 800 800 800"
@@ -48,7 +48,7 @@ unfoldable pub glaze-cases : List Case
 glaze-cases =
     -- K1: the frame above, its red, green and blue planes
     record {
-      given = numbers (plane small-frame red ++ plane small-frame green ++ plane small-frame blue);
+      given = numbers (plane small-frame 0 red ++ plane small-frame 0 green ++ plane small-frame 0 blue);
       told = naturals (100 ∷ 90 ∷ 111 ∷ 100 ∷ 51 ∷ 40 ∷ 61 ∷ 51 ∷ 200 ∷ 190 ∷ 211 ∷ 200 ∷ []);
     }
     -- K2: h,v = 17,10 weak
@@ -89,5 +89,5 @@ glaze-cases =
     ∷ []
 
 pub glaze-cases-hold : all-given glaze-cases ≡ all-told glaze-cases
-unfolding glaze-cases digits decimal numbers-line heading clamped-at site-text frame-text clamped held highest-sample joined tabulate raster round-half-up sample rggb colour reflect-once reflect-times reflect around mosaic apart taps six-tap six-tap-pair eastbound east-gradient west-gradient gradients gradients-at line-estimate horizontal-estimate half estimate threshold outcome first-pass outcome-at green-or less-eight trial-difference reach sum-about column-sum horizontal-sum vertical-sum diagonal-sum least-sum second-pass second-pass-at chroma-decision-at green-at inner-round one-if-zero count-zeros weight weights times sum-of-four weighted-sum total weighted-mean green-difference straight mean-two-off fusion-share fused final-difference corners diagonally corner-gradients chroma-site-difference colour-difference green-quarters quarters final-round output plane zeros File.packed File.check File.position-weighted-sum File.little-endian-bytes
+unfolding glaze-cases digits decimal numbers-line heading clamped-at site-text frame-text clamped held highest-sample joined tabulate raster round-half-up sample rggb colour reflect-once reflect-times reflect around mosaic apart taps six-tap six-tap-pair eastbound east-gradient west-gradient gradients gradients-at line-estimate horizontal-estimate half estimate threshold outcome first-pass outcome-at green-or less-eight trial-difference reach sum-about column-sum horizontal-sum vertical-sum diagonal-sum least-sum second-pass second-pass-at chroma-decision-at green-at inner-round one-if-zero count-zeros weight weights times sum-of-four weighted-sum total weighted-mean green-difference straight mean-two-off fusion-share fused final-difference corners diagonally corner-gradients chroma-site-difference colour-difference green-quarters quarters final-round output less-black plane zeros File.packed File.check File.position-weighted-sum File.little-endian-bytes
 glaze-cases-hold = refl

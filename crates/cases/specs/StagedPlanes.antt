@@ -1,7 +1,7 @@
 -- The planes and the decision map computed in stages: what a stage gives at each site is kept in a table, which the next stage reads. So
 -- they are computed with each quantity formed one time for each site; `plane-staged` and `map-staged` say that they are the planes and
 -- the map. Assumes nothing.
-use mathlib.Core.Path.{_≡_, refl, sym, _∙_, ap₂, fun-ext}
+use mathlib.Core.Path.{_≡_, refl, sym, _∙_, ap, ap₂, fun-ext}
 use mathlib.Core.Bool.{cond}
 use mathlib.Core.List.{List, _∷_}
 use Prim.Native.Nat.{ℕ, zero, suc, _+_, _*_, _/_, _%_, _<_, _≤_}
@@ -15,7 +15,7 @@ use Rattle.frame.specs.Sites.{Frame, Colour, green}
 use Rattle.method.specs.Gradients.{Mosaic, mosaic, around-in, samples-around, FourDirections, gradients-at}
 use Rattle.method.specs.Green.{Direction, horizontal, vertical, diagonal, estimate, first-pass, outcome-at, first-pass-or, green-or, less-eight, trial-difference, second-pass, second-pass-at, decided, decision-code, chroma-decision-at, decision-of, decision-at, decision-entry, decision-map}
 use Rattle.method.specs.GreenLaws.{green-is-decided}
-use Rattle.method.specs.Planes.{weighted-mean, green-difference, straight, mean-two-off, fused, final-difference, same, corners, corner-gradients, chroma-site-difference, colour-difference, green-quarters, quarters, final-round, output, plane}
+use Rattle.method.specs.Planes.{weighted-mean, green-difference, straight, mean-two-off, fused, final-difference, same, corners, corner-gradients, chroma-site-difference, colour-difference, green-quarters, quarters, final-round, output, less-black, plane}
 use Rattle.method.specs.Comparison.{trading}
 use Rattle.method.specs.MosaicChanges.{Matches, Sides, around-changed}
 
@@ -96,8 +96,9 @@ module _ (m : Mosaic) where
       let r = kept-trials G in
       decision-stage G r
 
-unfoldable pub staged-plane : Frame → Colour → List ℤ
-staged-plane f c = raster (f .height) (f .width) (staged-output (mosaic f) c)
+-- the black level comes off last
+unfoldable pub staged-plane : Frame → ℕ → Colour → List ℤ
+staged-plane f b c = let numbers = staged-output (mosaic f) c in raster (f .height) (f .width) (λ i j. less-black b (numbers i j))
 
 unfoldable pub staged-map : Frame → List ℕ
 staged-map f = raster (f .height) (f .width) (staged-entry (mosaic f))
@@ -191,12 +192,12 @@ module _ (f : Frame) (h : 2 ≤ f .height) (w : 2 ≤ f .width) where
   unfolding mosaic
   sides = record { height-is = refl; width-is = refl; height-low = h; width-low = w }
 
-  -- the planes of a frame, by stages
-  pub plane-staged : (c : Colour) → plane f c ≡ staged-plane f c
+  -- the planes of a frame at a black level, by stages
+  pub plane-staged : (b : ℕ) (c : Colour) → plane f b c ≡ staged-plane f b c
   unfolding plane staged-plane mosaic
-  plane-staged c =
-      raster-same (f .height) (f .width) (output (mosaic f) c) (staged-output (mosaic f) c) (omega arith)
-      (λ i j hi hj. sym (staged-same (mosaic f) sides c i j hi hj))
+  plane-staged b c =
+      raster-same (f .height) (f .width) _ _ (omega arith)
+      (λ i j hi hj. ap (less-black b) (sym (staged-same (mosaic f) sides c i j hi hj)))
 
   -- and its map
   pub map-staged : decision-map f ≡ staged-map f

@@ -1,4 +1,5 @@
--- A frame is accepted by develop exactly when it is admitted, and then there is a call that returns 0, 0 for it. Assumes nothing.
+-- A frame is accepted by develop at a black level exactly when it is admitted at it, and then there is a call that returns 0, 0 for it.
+-- Assumes nothing.
 use mathlib.Core.Path.{_≡_, refl, sym, _∙_, ap}
 use mathlib.Core.Bool.{true}
 use mathlib.Core.List.{List}
@@ -12,11 +13,11 @@ use Rattle.toolkit.specs.Tables.{tabulate, length-tabulate}
 use Rattle.frame.specs.declared.Answer.{Answer}
 use Rattle.frame.specs.declared.Answer.the-variants.{Done, Refused}
 use Rattle.frame.specs.Sites.{Frame, red, green, blue}
-use Rattle.frame.specs.Calls.{returned, lengths-fit, lengths-allowed, develop-answer, after, Admitted}
+use Rattle.frame.specs.Calls.{returned, lengths-fit, lengths-allowed, develop-answer, after, Admitted-at}
 use Rattle.method.specs.Green.{decision-map}
 use Rattle.method.specs.Planes.{plane}
 use Rattle.method.specs.Comparison.{Accepted}
-use Rattle.method.specs.Acceptance.{returned-admitted, admitted-accepted}
+use Rattle.method.specs.Acceptance as method
 use Rattle.develop.specs.LentBuffers.{Kept-on-refusal}
 use Rattle.demands.specs.WhatCallsLeave.{Buffers, buffers, lengths-of, Lengths-allowed, DevelopLeaves, Accepted-by-develop, Developed}
 
@@ -49,18 +50,18 @@ kept Done work = tt
 kept (Refused why) work = refl
 
 -- what a call leaves that does not touch the work buffer
-called : (f : Frame) (before : Buffers)
-    → DevelopLeaves f before (develop-answer f (lengths-of before))
-    (let answer : Answer = develop-answer f (lengths-of before) in
-    buffers (after answer (plane f red) (before .red-plane)) (after answer (plane f green) (before .green-plane))
-    (after answer (plane f blue) (before .blue-plane)) (after answer (decision-map f) (before .map)) (before .work))
-called f before = record {
+called : (f : Frame) (b : ℕ) (before : Buffers)
+    → DevelopLeaves f b before (develop-answer f b (lengths-of before))
+    (let answer : Answer = develop-answer f b (lengths-of before) in
+    buffers (after answer (plane f b red) (before .red-plane)) (after answer (plane f b green) (before .green-plane))
+    (after answer (plane f b blue) (before .blue-plane)) (after answer (decision-map f) (before .map)) (before .work))
+called f b before = record {
   answered = refl;
   red-left = refl;
   green-left = refl;
   blue-left = refl;
   map-left = refl;
-  work-left = kept (develop-answer f (lengths-of before)) (before .work);
+  work-left = kept (develop-answer f b (lengths-of before)) (before .work);
 }
 
 -- buffers of the least lengths that are allowed
@@ -82,31 +83,34 @@ least-allowed f = record {
 
 -- ---- acceptance
 
-module _ (f : Frame) where
-  pub accepted-admitted : Accepted-by-develop f → Admitted f
+module _ (f : Frame) (b : ℕ) where
+  pub accepted-admitted : Accepted-by-develop f b → Admitted-at f b
   accepted-admitted accepted =
-      returned-admitted f (lengths-of (least f)) (accepted (least f) (least-allowed f) _ _ (called f (least f)))
+      method.returned-admitted f b (lengths-of (least f)) (accepted (least f) (least-allowed f) _ _ (called f b (least f)))
 
-  pub admitted-accepted-by-develop : Admitted f → Accepted-by-develop f
+  pub admitted-accepted-by-develop : Admitted-at f b → Accepted-by-develop f b
   admitted-accepted-by-develop a before allowed answer left call =
-      ap returned (call .answered) ∙ admitted-accepted f a (lengths-of before) (holds (yes-lengths f before allowed))
+      ap returned (call .answered) ∙ method.admitted-accepted f b a (lengths-of before) (holds (yes-lengths f before allowed))
 
   -- acceptance is that of the definitions
-  pub accepted-defined : Accepted-by-develop f → Accepted f
-  accepted-defined accepted = admitted-accepted f (accepted-admitted accepted)
+  pub accepted-defined : Accepted-by-develop f b → Accepted f b
+  accepted-defined accepted = method.admitted-accepted f b (accepted-admitted accepted)
+
+  pub defined-accepted : Accepted f b → Accepted-by-develop f b
+  defined-accepted accepted = admitted-accepted-by-develop (method.accepted-admitted f b accepted)
 
   -- one call that returns 0, 0 is enough
-  pub developed-accepted : Developed f → Accepted-by-develop f
+  pub developed-accepted : Developed f b → Accepted-by-develop f b
   developed-accepted call =
       admitted-accepted-by-develop
-      (returned-admitted f (lengths-of (call .before)) (sym (ap returned (call .leaves .answered)) ∙ call .succeeds))
+      (method.returned-admitted f b (lengths-of (call .before)) (sym (ap returned (call .leaves .answered)) ∙ call .succeeds))
 
   -- an accepted frame has such a call, with any buffers of the allowed lengths
-  pub accepted-developed : Accepted-by-develop f → (before : Buffers) → Lengths-allowed f before → Developed f
+  pub accepted-developed : Accepted-by-develop f b → (before : Buffers) → Lengths-allowed f before → Developed f b
   accepted-developed accepted before allowed = record {
     before = before;
     answer = _;
     left = _;
-    leaves = called f before;
-    succeeds = accepted before allowed _ _ (called f before);
+    leaves = called f b before;
+    succeeds = accepted before allowed _ _ (called f b before);
   }

@@ -39,13 +39,15 @@ pub write-leaves : (κs : Lfts 2) (a : ArgsD write.signature κs) (r : ResD writ
     → write-contract.Learnt κs a r s ↔ WriteLeaves (frame (a .0) (now (a .1 .0))) (now (a .1 .1 .0)) r (now (s .1 .1 .0))
 write-leaves κs a r s = (λ p. record { answered = p .0; file-left = p .1 }, λ q. (q .answered, q .file-left))
 
--- develop(shape, mosaic, red, green, blue, map, work)
+-- develop(shape, black, mosaic, red, green, blue, map, work)
 pub develop-leaves : (κs : Lfts 6) (a : ArgsD develop.signature κs) (r : ResD develop.signature κs)
     (s : AtExit (endedOf 6 develop-kinds.ps develop-kinds.r) κs)
-    → develop-contract.Learnt κs a r s ↔ DevelopLeaves (frame (a .0) (now (a .1 .0)))
-    (buffers (now (a .1 .1 .0)) (now (a .1 .1 .1 .0)) (now (a .1 .1 .1 .1 .0)) (now (a .1 .1 .1 .1 .1 .0)) (now (a .1 .1 .1 .1 .1 .1 .0)))
+    → develop-contract.Learnt κs a r s ↔ DevelopLeaves (frame (a .0) (now (a .1 .1 .0))) (a .1 .0)
+    (buffers (now (a .1 .1 .1 .0)) (now (a .1 .1 .1 .1 .0)) (now (a .1 .1 .1 .1 .1 .0))
+    (now (a .1 .1 .1 .1 .1 .1 .0)) (now (a .1 .1 .1 .1 .1 .1 .1 .0)))
     r
-    (buffers (now (s .1 .1 .0)) (now (s .1 .1 .1 .0)) (now (s .1 .1 .1 .1 .0)) (now (s .1 .1 .1 .1 .1 .0)) (now (s .1 .1 .1 .1 .1 .1 .0)))
+    (buffers (now (s .1 .1 .1 .0)) (now (s .1 .1 .1 .1 .0)) (now (s .1 .1 .1 .1 .1 .0))
+    (now (s .1 .1 .1 .1 .1 .1 .0)) (now (s .1 .1 .1 .1 .1 .1 .1 .0)))
 develop-leaves κs a r s = (
   λ p. record {
     answered = p .0;

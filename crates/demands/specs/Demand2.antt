@@ -15,7 +15,7 @@ use Rattle.frame.specs.Calls.{success, returned, returned-by-read}
 use Rattle.frame.specs.Admission.{refused-not-done, returned-done}
 use Rattle.method.specs.Gradients.{mosaic}
 use Rattle.method.specs.Green.{decision-entry, decision-map}
-use Rattle.method.specs.Planes.{output, plane}
+use Rattle.method.specs.Planes.{output, less-black, plane}
 use Rattle.frame_file.specs.Lists.{Below}
 use Rattle.frame_file.specs.FrameFile.{sample-count, shape-of, write-answer, Reading, accepted, refused, answer-of, reading, read-answer}
 use Rattle.frame_file.specs.AcceptedExactlyWhenWritten.{accepted-is-written}
@@ -25,33 +25,34 @@ use Rattle.demands.specs.WhatCallsLeave.{Buffers, plane-of, DevelopLeave
 -- ---- "The planes equal, number for number, the method of Chung and Chan (2010) in the whole-number form of document 01, ties and
 -- borders included."
 
-module _ (f : Frame) (before : Buffers) where
-  -- a call of develop that returns 0, 0 leaves the planes of the method
-  pub planes-left : (answer : Answer) (left : Buffers) → DevelopLeaves f before answer left → returned answer ≡ success
-      → (c : Colour) → plane-of left c ≡ plane f c
+module _ (f : Frame) (b : ℕ) (before : Buffers) where
+  -- a call of develop that returns 0, 0 leaves the planes of the method, less the black level
+  pub planes-left : (answer : Answer) (left : Buffers) → DevelopLeaves f b before answer left → returned answer ≡ success
+      → (c : Colour) → plane-of left c ≡ plane f b c
   planes-left Done left call e red = call .red-left
   planes-left Done left call e green = call .green-left
   planes-left Done left call e blue = call .blue-left
   planes-left (Refused why) left call e c = refused-not-done why (returned-done (Refused why) e)
 
-  -- W·H entries, of which i·W + j is the method's number at (i,j)
-  pub numbers-left : (answer : Answer) (left : Buffers) → DevelopLeaves f before answer left → returned answer ≡ success
+  -- W·H entries, of which i·W + j is the method's number at (i,j); document 02, A2: less b
+  pub numbers-left : (answer : Answer) (left : Buffers) → DevelopLeaves f b before answer left → returned answer ≡ success
       → (c : Colour)
       → (length (plane-of left c) ≡ f .height * f .width) ×
-      ((i j : ℕ) → i < f .height → j < f .width → getD (plane-of left c) (i * f .width + j) (pos 0) ≡ output (mosaic f) c i j)
+      ((i j : ℕ) → i < f .height → j < f .width
+      → getD (plane-of left c) (i * f .width + j) (pos 0) ≡ less-black b (output (mosaic f) c i j))
   unfolding plane
   numbers-left answer left call e c =
       rw (planes-left answer left call e c)
-      (length-raster (f .height) (f .width) (output (mosaic f) c), λ i j. getD-raster (f .height) (f .width) (output (mosaic f) c) i j (pos 0))
+      (length-raster (f .height) (f .width) _, λ i j. getD-raster (f .height) (f .width) _ i j (pos 0))
 
   -- document 02, A1: beside the planes it leaves the method's decisions
-  pub decisions-left : (answer : Answer) (left : Buffers) → DevelopLeaves f before answer left → returned answer ≡ success
+  pub decisions-left : (answer : Answer) (left : Buffers) → DevelopLeaves f b before answer left → returned answer ≡ success
       → left .map ≡ decision-map f
   decisions-left Done left call e = call .map-left
   decisions-left (Refused why) left call e = refused-not-done why (returned-done (Refused why) e)
 
   -- W·H entries, of which i·W + j is the code of the method's decision at (i,j)
-  pub entries-left : (answer : Answer) (left : Buffers) → DevelopLeaves f before answer left → returned answer ≡ success
+  pub entries-left : (answer : Answer) (left : Buffers) → DevelopLeaves f b before answer left → returned answer ≡ success
       → (length (left .map) ≡ f .height * f .width) ×
       ((i j : ℕ) → i < f .height → j < f .width → getD (left .map) (i * f .width + j) 0 ≡ decision-entry (mosaic f) i j)
   unfolding decision-map

@@ -62,17 +62,19 @@ pub write-returns : (κs : Lfts 2) (a : ArgsD write.signature κs) (r : ResD wri
     → write-contract.Learnt κs a r s ↔ Write-returns (frame (a .0) (now (a .1 .0))) (now (a .1 .1 .0)) r (now (s .1 .1 .0))
 write-returns κs a r s = (λ p. (p .0, record { answered = refl; file-left = p .1 }), λ q. (q .0, q .1 .file-left))
 
--- bayer_develop(shape, mosaic, red, green, blue, map, work)
-abbrev pub Develop-returns : Frame → Buffers → Returned → Buffers → Type 0
-Develop-returns f before r left =
-    let answer = develop-answer f (lengths-of before) in Exported answer r × DevelopLeaves f before answer left
+-- bayer_develop(shape, black, mosaic, red, green, blue, map, work)
+abbrev pub Develop-returns : Frame → ℕ → Buffers → Returned → Buffers → Type 0
+Develop-returns f b before r left =
+    let answer = develop-answer f b (lengths-of before) in Exported answer r × DevelopLeaves f b before answer left
 
 pub develop-returns : (κs : Lfts 6) (a : ArgsD develop.signature κs) (r : ResD develop.signature κs)
     (s : AtExit (endedOf 6 develop-kinds.ps develop-kinds.r) κs)
-    → develop-contract.Learnt κs a r s ↔ Develop-returns (frame (a .0) (now (a .1 .0)))
-    (buffers (now (a .1 .1 .0)) (now (a .1 .1 .1 .0)) (now (a .1 .1 .1 .1 .0)) (now (a .1 .1 .1 .1 .1 .0)) (now (a .1 .1 .1 .1 .1 .1 .0)))
+    → develop-contract.Learnt κs a r s ↔ Develop-returns (frame (a .0) (now (a .1 .1 .0))) (a .1 .0)
+    (buffers (now (a .1 .1 .1 .0)) (now (a .1 .1 .1 .1 .0)) (now (a .1 .1 .1 .1 .1 .0))
+    (now (a .1 .1 .1 .1 .1 .1 .0)) (now (a .1 .1 .1 .1 .1 .1 .1 .0)))
     r
-    (buffers (now (s .1 .1 .0)) (now (s .1 .1 .1 .0)) (now (s .1 .1 .1 .1 .0)) (now (s .1 .1 .1 .1 .1 .0)) (now (s .1 .1 .1 .1 .1 .1 .0)))
+    (buffers (now (s .1 .1 .1 .0)) (now (s .1 .1 .1 .1 .0)) (now (s .1 .1 .1 .1 .1 .0))
+    (now (s .1 .1 .1 .1 .1 .1 .0)) (now (s .1 .1 .1 .1 .1 .1 .1 .0)))
 develop-returns κs a r s = (
   λ p. (
     p .0,

@@ -1,6 +1,7 @@
 pub mod WhatCallsLeave
 pub mod Contracts
 pub mod Exports
+pub mod Conditions
 pub mod Rows
 pub mod ReadRows
 pub mod Acceptance

@@ -1,24 +1,23 @@
 -- Document 01, the table "returned: number, place", for read: row by row with its condition, in the order in which read tests; and that
 -- what read answers is such a row. Assumes nothing.
 use mathlib.Core.Path.{_≡_, ap, subst, sym, _∙_}
-use mathlib.Core.Bool.{Bool, true, false, _&&_, true≢false}
+use mathlib.Core.Bool.{Bool}
 use mathlib.Core.Logic.{⊎-elim}
 use mathlib.Core.List.{List, [], _∷_}
 use Prim.Native.Nat.{ℕ, zero, suc, _+_, _*_, _-_, _%_, _<_, _≤_}
 use native.Mathlib.Nat.{eq-or-lt-of-le, le-of-suc-le-suc}
 use native.Mathlib.Omega.{arith}
-use lib.Dec.{leb, eqb}
 use lib.ListN.{length, getD, drop, length-drop}
 use lib.Seq.{getD-drop}
-use Rattle.toolkit.specs.Tests.{by-test, leb-le, leb-gt, eqb-eq, eqb-ne}
 use Rattle.frame.specs.declared.Refusal.{Refusal}
 use Rattle.frame.specs.declared.Refusal.the-variants.{BufferLength, FileLength, Check, Header, BlockNumber, Filler}
-use Rattle.frame.specs.Sites.{Frame, side-allowed, phase-allowed}
+use Rattle.frame.specs.Sites.{Frame, phase-allowed}
 use Rattle.frame.specs.Calls.{Returned, success, number-and-place, returned-by-read}
 use Rattle.frame_file.specs.Lists.{part, all-zero, same-list, same-list-self, same-list-equal}
-use Rattle.frame_file.specs.FrameFile.{sample-count, block, block-number, check, stored-check, tag, has-tag, header, header-filler, payload, block-filler, block-count, file-length, unpacked-payload, stored-frame, Reading, answer-of, tested, length-allowed, check-holds, number-holds, header-allowed, filler-holds, later-blocks, reading}
+use Rattle.frame_file.specs.FrameFile.{sample-count, block, block-number, check, stored-check, tag, has-tag, header, header-filler, payload, block-filler, block-count, file-length, unpacked-payload, stored-frame, Reading, refused, answer-of, tested, length-allowed, check-holds, number-holds, header-allowed, filler-holds, later-blocks, reading}
 use Rattle.frame_file.specs.BlockCount.{some-blocks}
 use Rattle.frame_file.specs.Raw10.{length-unpacked-payload}
+use Rattle.demands.specs.Conditions.{Decides, holds, both-ways, same-decides, both-decide, equal-decides, at-most-decides, side-decides, by-condition}
 use Rattle.demands.specs.Rows.{row, Sides-allowed}
 
 -- ---- the conditions; W, H and the phase are those of the header
@@ -111,35 +110,10 @@ pub data Row-of-read (file : List ℕ) (room : ℕ) : Returned → Type 0 where
   done : Front-holds file room → ((n : ℕ) → 1 ≤ n → n < block-count (sample-count (stored-frame file)) → Block-holds file n)
       → Row-of-read file room success
 
--- ---- laws: what a test says of a proposition
-
-data Decides (P : Type 0) : Bool → Type 0 where
-  holds : P → Decides P true
-  fails : ¬ P → Decides P false
-
-same-decides : {P Q : Type 0} {test : Bool} → (P → Q) → (Q → P) → Decides P test → Decides Q test
-same-decides there back (holds p) = holds (there p)
-same-decides there back (fails refuted) = fails (λ q. refuted (back q))
-
-both-decide : {P Q : Type 0} {a b : Bool} → Decides P a → Decides Q b → Decides (P × Q) (a && b)
-both-decide (holds p) (holds q) = holds (p, q)
-both-decide (holds p) (fails refuted) = fails (λ both. refuted (both .1))
-both-decide (fails refuted) other = fails (λ both. refuted (both .0))
-
-equal-decides : (m n : ℕ) → Decides (m ≡ n) (eqb m n)
-equal-decides m n = by-test (eqb m n) _ (λ t. rw t (holds (eqb-eq m n t))) (λ t. rw t (fails (eqb-ne t)))
-
-at-most-decides : (m n : ℕ) → Decides (m ≤ n) (leb m n)
-at-most-decides m n = by-test (leb m n) _
-    (λ t. rw t (holds (leb-le m n t)))
-    (λ t. rw t (fails (λ h. let g : n < m = leb-gt m n t in omega arith)))
+-- ---- laws: lists
 
 same-list-decides : (l m : List ℕ) → Decides (l ≡ m) (same-list l m)
-same-list-decides l m = by-test (same-list l m) _
-    (λ t. rw t (holds (same-list-equal l m t)))
-    (λ t. rw t (fails (λ e. true≢false (sym (same-list-self l) ∙ (ap (same-list l) e ∙ t)))))
-
--- ---- laws: zeros
+same-list-decides l m = both-ways (same-list l m) (same-list-equal l m) (λ e. sym (ap (same-list l) e) ∙ same-list-self l)
 
 first-zero : (x : ℕ) (l : List ℕ) → x ≡ 0 → All-zero l → All-zero (x ∷ l)
 first-zero x l here rest zero h = here
@@ -164,10 +138,6 @@ zero-dropped l a each k h from =
     subst (λ (i : ℕ). getD l i 0 ≡ 0) e (sym (getD-drop a l (k - a) 0) ∙ each (k - a) (omega (arith, length-drop a l)))
 
 -- ---- laws: the tests of read
-
-side-decides : (n : ℕ) → Decides ((2 ≤ n) × (n ≤ 4096)) (side-allowed n)
-unfolding side-allowed
-side-decides n = both-decide (at-most-decides 2 n) (at-most-decides n 4096)
 
 module _ (file : List ℕ) where
   length-decides : Decides (Length-allowed file) (length-allowed (length file))
@@ -225,8 +195,7 @@ module _ (file : List ℕ) (room : ℕ) where
 
   tested-row : {P : Type 0} {test : Bool} (why : Refusal) (rest : Reading) → Decides P test
       → (¬ P → Row-of-read file room (number-and-place why)) → (P → Row-of rest) → Row-of (tested test why rest)
-  tested-row why rest (holds p) here later = later p
-  tested-row why rest (fails refuted) here later = here refuted
+  tested-row why rest decides here later = by-condition Row-of rest (refused why) decides later here
 
   next-block : (n : ℕ) → ((m : ℕ) → 1 ≤ m → m < n → Block-holds file m) → Block-holds file n
       → (m : ℕ) → 1 ≤ m → m < suc n → Block-holds file m

@@ -28,12 +28,12 @@ abbrev pub buffers : List ℤ → List ℤ → List ℤ → List ℕ → List �
 buffers r g b m w = record { red-plane = r; green-plane = g; blue-plane = b; map = m; work = w }
 
 abbrev pub lengths-of : Buffers → Lengths
-lengths-of b = lengths (b .red-plane) (b .green-plane) (b .blue-plane) (b .map) (b .work)
+lengths-of lent = lengths (lent .red-plane) (lent .green-plane) (lent .blue-plane) (lent .map) (lent .work)
 
 abbrev pub plane-of : Buffers → Colour → List ℤ
-plane-of b red = b .red-plane
-plane-of b green = b .green-plane
-plane-of b blue = b .blue-plane
+plane-of lent red = lent .red-plane
+plane-of lent green = lent .green-plane
+plane-of lent blue = lent .blue-plane
 
 -- "Develop lends a mosaic and three 32-bit signed planes of exactly W·H entries, and a work buffer of 4·W·H or more"; document 02, A1,
 -- "one more map of W·H bytes"
@@ -44,34 +44,34 @@ pub record Lengths-allowed (f : Frame) (before : Buffers) : Type 0 where
   pub map-length : length (before .map) ≡ f .height * f .width
   pub work-length : 4 * (f .height * f .width) ≤ length (before .work)
 
--- develop, lent the frame f, answers and leaves the buffers so
-pub record DevelopLeaves (f : Frame) (before : Buffers) (answer : Answer) (left : Buffers) : Type 0 where
-  pub answered : answer ≡ develop-answer f (lengths-of before)
-  pub red-left : left .red-plane ≡ after answer (plane f red) (before .red-plane)
-  pub green-left : left .green-plane ≡ after answer (plane f green) (before .green-plane)
-  pub blue-left : left .blue-plane ≡ after answer (plane f blue) (before .blue-plane)
+-- develop, lent the frame f and given the black level b, answers and leaves the buffers so
+pub record DevelopLeaves (f : Frame) (b : ℕ) (before : Buffers) (answer : Answer) (left : Buffers) : Type 0 where
+  pub answered : answer ≡ develop-answer f b (lengths-of before)
+  pub red-left : left .red-plane ≡ after answer (plane f b red) (before .red-plane)
+  pub green-left : left .green-plane ≡ after answer (plane f b green) (before .green-plane)
+  pub blue-left : left .blue-plane ≡ after answer (plane f b blue) (before .blue-plane)
   pub map-left : left .map ≡ after answer (decision-map f) (before .map)
   pub work-left : Kept-on-refusal answer (before .work) (left .work)
 
--- "It is accepted when develop, lent buffers of the allowed lengths, returns 0, 0 for it."
-abbrev pub Accepted-by-develop : Frame → Type 0
-Accepted-by-develop f = (before : Buffers) → Lengths-allowed f before → (answer : Answer) (left : Buffers)
-    → DevelopLeaves f before answer left → returned answer ≡ success
+-- "It is accepted when develop, lent buffers of the allowed lengths, returns 0, 0 for it."; document 02, A2: at the black level b
+abbrev pub Accepted-by-develop : Frame → ℕ → Type 0
+Accepted-by-develop f b = (before : Buffers) → Lengths-allowed f before → (answer : Answer) (left : Buffers)
+    → DevelopLeaves f b before answer left → returned answer ≡ success
 
--- a call of develop that returned 0, 0 for f
-pub record Developed (f : Frame) : Type 0 where
+-- a call of develop that returned 0, 0 for f at b
+pub record Developed (f : Frame) (b : ℕ) : Type 0 where
   pub before : Buffers
   pub answer : Answer
   pub left : Buffers
-  pub leaves : DevelopLeaves f before answer left
+  pub leaves : DevelopLeaves f b before answer left
   pub succeeds : returned answer ≡ success
 
 -- "The three numbers at (i,j) are entry i·W + j of the planes that this call fills, whatever the buffers held before."
-abbrev pub number-left : {f : Frame} → Developed f → Colour → ℕ → ℕ → ℤ
+abbrev pub number-left : {f : Frame} {b : ℕ} → Developed f b → Colour → ℕ → ℕ → ℤ
 number-left {f} call c i j = getD (plane-of (call .left) c) (i * f .width + j) (pos 0)
 
 -- document 02, A1: the entry at (i,j) is that of the map, likewise
-abbrev pub entry-left : {f : Frame} → Developed f → ℕ → ℕ → ℕ
+abbrev pub entry-left : {f : Frame} {b : ℕ} → Developed f b → ℕ → ℕ → ℕ
 entry-left {f} call i j = getD (call .left .map) (i * f .width + j) 0
 
 -- ---- clamp

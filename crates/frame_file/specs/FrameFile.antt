@@ -9,6 +9,7 @@ use Rattle.frame.specs.declared.Shape.{Shape}
 use Rattle.frame.specs.declared.Refusal.{Refusal}
 use Rattle.frame.specs.declared.Refusal.the-variants.{BufferLength, FileLength, Check, Header, BlockNumber, Filler}
 use Rattle.frame.specs.declared.Answer.{Answer}
+use Rattle.frame.specs.declared.Answer.the-variants.{Done}
 use Rattle.frame.specs.declared.ReadAnswer.{ReadAnswer}
 use Rattle.frame.specs.declared.ReadAnswer.the-variants as Read
 use Rattle.frame.specs.Sites.{Frame, frame, side-allowed, phase-allowed}
@@ -148,9 +149,9 @@ written-block f (suc n) = with-check (sample-bytes (suc n) (block-samples (f .sa
 unfoldable pub written-file : Frame → List ℕ
 written-file f = joined (block-count (sample-count f)) (written-block f)
 
--- "Write needs exactly the file's length."; "The order is 1 to 5."
+-- "Write needs exactly the file's length."; "The order is 1 to 5."; it takes no black level
 unfoldable pub write-answer : Frame → ℕ → Answer
-write-answer f lent-length = answer-in-order f (eqb lent-length (file-length f))
+write-answer f lent-length = answer-in-order f Done (eqb lent-length (file-length f)) Done
 
 -- "Every refusal leaves every buffer untouched.": what the lent file holds after write
 unfoldable pub file-after-write : Frame → List ℕ → List ℕ

@@ -14,7 +14,7 @@ use Rattle.frame.specs.declared.Answer.the-variants.{Done}
 use Rattle.frame.specs.declared.ReadAnswer.the-variants as Read
 use Rattle.frame.specs.Sites.{Frame, frame}
 use Rattle.frame.specs.Calls.{Admitted}
-use Rattle.frame.specs.Admission.{done-admitted, admitted-done}
+use Rattle.frame.specs.Admission.{done-passed, passed-done}
 use Rattle.frame_file.specs.Lists.{Below}
 use Rattle.frame_file.specs.FrameFile.{sample-count, shape-of, file-length, written-file, write-answer, file-after-write, Reading, accepted, refused, answer-of, samples-of, reading, read-answer, samples-after-read}
 use Rattle.frame_file.specs.WrittenFile.{length-written-file}
@@ -34,7 +34,9 @@ pub record Yields (file before : List ℕ) (f : Frame) : Type 0 where
 
 pub write-done : (f : Frame) → Admitted f → (n : ℕ) → n ≡ file-length f → write-answer f n ≡ Done
 unfolding write-answer
-write-done f a n e = admitted-done f (eqb n (file-length f)) (rw (eqb-yes e) tt) a
+write-done f a n e =
+    passed-done f Done (eqb n (file-length f)) Done
+    (record { admitted = a; black-passes = refl; lengths-pass = rw (eqb-yes e) tt; none-is-under = refl })
 
 pub write-leaves : (f : Frame) (before : List ℕ) → write-answer f (length before) ≡ Done → file-after-write f before ≡ written-file f
 unfolding file-after-write
@@ -43,7 +45,7 @@ write-leaves f before e = rw e
 pub makes-written : (f : Frame) (file : List ℕ) → Makes f file → Admitted f × (file ≡ written-file f)
 unfolding write-answer
 makes-written f file m = (
-  done-admitted f (eqb (length file) (file-length f)) (m .answered) .1,
+  done-passed f Done (eqb (length file) (file-length f)) Done (m .answered) .admitted,
   sym (m .left file refl) ∙ write-leaves f file (m .answered),
 )
 

@@ -18,7 +18,7 @@ use Rattle.frame.specs.Sites.{Frame, Colour, red, green, blue, highest-sample}
 use Rattle.frame.specs.Calls.{held, clamped}
 use Rattle.method.specs.Planes.{plane}
 use Rattle.frame_file.specs.Lists.{joined, joined-cong}
-use Rattle.printing.specs.Printing.{numbers-line, heading, clamped-at, site-text, frame-text}
+use Rattle.printing.specs.Printing.{black-level, numbers-line, heading, clamped-at, site-text, frame-text}
 
 -- entry k of a clamped plane, as a natural number
 abbrev pub clamped-entry : List ℤ → ℕ → ℕ
@@ -75,19 +75,19 @@ cast-number z f low high = rw (toZ-ofZ f) (low, record { fits = omega arith })
 
 -- ---- the planes that develop and clamp leave
 
-pub length-clamped : (f : Frame) (c : Colour) → length (clamped (plane f c)) ≡ f .height * f .width
+pub length-clamped : (f : Frame) (c : Colour) → length (clamped (plane f black-level c)) ≡ f .height * f .width
 unfolding clamped plane
-length-clamped f c = length-map (plane f c) held ∙ length-raster (f .height) (f .width) _
+length-clamped f c = length-map (plane f black-level c) held ∙ length-raster (f .height) (f .width) _
 
 module _ (f : Frame) where
   same-line : (k : ℕ)
-      → planes-line (f .width) (clamped (plane f red)) (clamped (plane f green)) (clamped (plane f blue)) k
+      → planes-line (f .width) (clamped (plane f black-level red)) (clamped (plane f black-level green)) (clamped (plane f black-level blue)) k
       ≡ site-text f (k / f .width) (k % f .width)
   unfolding planes-line site-text clamped-at
   same-line k = rw (div-add-mod' k (f .width))
 
   pub frame-text-planes :
-      planes-text (f .width) (clamped (plane f red)) (clamped (plane f green)) (clamped (plane f blue)) ≡ frame-text f
+      planes-text (f .width) (clamped (plane f black-level red)) (clamped (plane f black-level green)) (clamped (plane f black-level blue)) ≡ frame-text f
   unfolding planes-text frame-text
   frame-text-planes =
       rw (length-clamped f red)

@@ -16,7 +16,7 @@ use Rattle.frame.specs.Calls.{develop-answer}
 use Rattle.frame_file.specs.FrameFile.{Reading, accepted, refused, reading, shape-of, sample-count, block-count, stored-frame, answer-of, samples-of, read-answer, samples-after-read}
 use Rattle.frame_file.specs.BlockSamples.{length-stored-samples}
 use Rattle.frame_file.specs.ReadTests.{header-of-accepted, later-blocks-accepted}
-use Rattle.printing.specs.Printing.{lent, developed-text, refusal-text, text-of, printed}
+use Rattle.printing.specs.Printing.{black-level, lent, developed-text, refusal-text, text-of, printed}
 
 -- the samples of an accepted frame are W·H, and there is room for them
 pub record Counted (f : Frame) (room : ℕ) : Type 0 where
@@ -82,7 +82,7 @@ module _ (file before : List ℕ) (size : length before ≡ 1024) where
   pub frame-printed : (shape : Shape) (samples : List ℕ) → Read.Frame shape ≡ read-answer file (length before)
       → samples ≡ samples-after-read file before
       → developed-text (frame shape (take (shape .height * shape .width - 0) (drop 0 samples)))
-      (develop-answer (frame shape (take (shape .height * shape .width - 0) (drop 0 samples)))
+      (develop-answer (frame shape (take (shape .height * shape .width - 0) (drop 0 samples))) black-level
       (lent (frame shape (take (shape .height * shape .width - 0) (drop 0 samples)))))
       ≡ text-of (reading file 1024)
   frame-printed shape samples a left =

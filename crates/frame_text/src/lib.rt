@@ -10,7 +10,7 @@ ghost use Rattle.frame.specs.Sites.{frame as frame-of};
 ghost use Rattle.frame.specs.Calls.{develop-answer, clamped};
 ghost use Rattle.frame_file.specs.Lists.{joined};
 ghost use Rattle.frame_file.specs.FrameFile.{reading};
-ghost use Rattle.printing.specs.Printing.{lent, developed-text, text-of};
+ghost use Rattle.printing.specs.Printing.{black-level, lent, developed-text, text-of};
 ghost use Rattle.text.specs.Put.{Put};
 ghost use Rattle.frame_text.specs.PlanesText.{clamped-entry, planes-line, planes-text, Clamped-numbers};
 ghost use Rattle.frame_text.specs.Buffers.{Planes-lent};
@@ -75,7 +75,7 @@ fn clamp_plane(plane: &[i32], filled: &mut [i32])
     clamp::clamp(plane, filled);
 }
 
-// The text of a frame: developed, clamped into reds, greens and blues, and printed; or develop's refusal.
+// The text of a frame: developed at black level 0, clamped into reds, greens and blues, and printed; or develop's refusal.
 fn developed_text(
     text: &mut [u8],
     shape: Shape,
@@ -93,10 +93,10 @@ fn developed_text(
     requires { ⌜ Planes-lent (shape .height * shape .width) (now red) (now green) (now blue) (now map) (now work)
         (now reds) (now greens) (now blues) ⌝ }
     ensures { λ r. ⌜ Put (now (text .entry)) 0
-        (developed-text (frame-of shape (now (mosaic .entry))) (develop-answer (frame-of shape (now (mosaic .entry))) (lent (frame-of shape (now (mosaic .entry))))))
+        (developed-text (frame-of shape (now (mosaic .entry))) (develop-answer (frame-of shape (now (mosaic .entry))) black-level (lent (frame-of shape (now (mosaic .entry))))))
         (now (text .exit)) r ⌝ }
 {
-    match develop::develop(shape, mosaic, red, green, blue, map, work) {
+    match develop::develop(shape, 0, mosaic, red, green, blue, map, work) {
         Answer::Refused(why) => text::refusal(text, why),
         Answer::Done => {
             clamp_plane(red, reds);

@@ -3,7 +3,7 @@ use frame::Shape;
 ghost use mathlib.Core.Path.{_≡_};
 ghost use mathlib.Core.List.{[], _∷_};
 ghost use Prim.Native.Nat.{ℕ, _+_, _*_, _-_, _≤_};
-ghost use lib.IntN.{pos, _+ℤ_, _-ℤ_, _*ℤ_};
+ghost use lib.IntN.{pos, natAbs, _+ℤ_, _-ℤ_, _*ℤ_};
 ghost use lib.ListN.{length, getD};
 ghost use Rattle.toolkit.specs.Entries.{Entries};
 ghost use Rattle.toolkit.specs.Writes.{Wrote};
@@ -149,14 +149,15 @@ pub fn direct_means(
 }
 
 // A colour at green sites: 4·G less its difference, which m holds, as an output.
-pub fn green_sites(z: &[i32; 2064], m: &mut [i32; 2064], count: usize)
-    requires { ⌜ (count ≤ 2048) × (length (now m) ≡ 2064) × (Sized 4096 4 (count + 4) (now z)) × (Sized 4096 4 (count + 4) (now m)) ⌝ }
+pub fn green_sites(z: &[i32; 2064], black: i32, m: &mut [i32; 2064], count: usize)
+    requires { ⌜ (count ≤ 2048) × (length (now m) ≡ 2064) × (Sized 4096 4 (count + 4) (now z)) × (Sized 4096 4 (count + 4) (now m))
+        × (natAbs black ≤ 255) ⌝ }
     ensures { λ _. ⌜ Entries (pos 0) 2064 4 (count + 4) (λ (x : ℕ). final-round (pos 4 *ℤ getD (now (z .entry)) x (pos 0) -ℤ getD
-        (now (m .entry)) x (pos 0))) (now (m .exit)) ⌝ }
+        (now (m .entry)) x (pos 0)) -ℤ black) (now (m .exit)) ⌝ }
 {
     let mut k = 4;
     while k < count + 4 {
-        m[k] = site_values::output(4 * z[k] - m[k]);
+        m[k] = site_values::output(4 * z[k] - m[k], black);
         k += 1;
     }
 }
@@ -166,23 +167,36 @@ pub fn chroma_sites(
     own: &[i32; 2064],
     other: &[i32; 2064],
     z: &[i32; 2064],
+    black: i32,
     g: &mut [i32; 2064],
     y: &mut [i32; 2064],
     count: usize,
 )
-    requires { ⌜ (count ≤ 2048) × (length (now g) ≡ 2064) × (length (now y) ≡ 2064) ⌝ }
+    requires { ⌜ (count ≤ 2048) × (length (now g) ≡ 2064) × (length (now y) ≡ 2064) × (natAbs black ≤ 255) ⌝ }
     requires { ⌜ (Sized 4096 4 (count + 4) (now own)) × (Sized 4096 4 (count + 4) (now other)) × (Sized 4096 4 (count + 4) (now z)) ⌝ }
     ensures { λ _. ⌜ Entries (pos 0) 2064 4 (count + 4) (λ (x : ℕ). final-round (getD (now (own .entry)) x (pos 0) +ℤ pos 4 *ℤ getD
-        (now (z .entry)) x (pos 0))) (now (g .exit)) ⌝ }
+        (now (z .entry)) x (pos 0)) -ℤ black) (now (g .exit)) ⌝ }
     ensures { λ _. ⌜ Entries (pos 0) 2064 4 (count + 4) (λ (x : ℕ). final-round (getD (now (own .entry)) x (pos 0) +ℤ pos 4 *ℤ getD
-        (now (z .entry)) x (pos 0) -ℤ getD (now (other .entry)) x (pos 0))) (now (y .exit)) ⌝ }
+        (now (z .entry)) x (pos 0) -ℤ getD (now (other .entry)) x (pos 0)) -ℤ black) (now (y .exit)) ⌝ }
 {
     let mut k = 4;
     while k < count + 4 {
         let q = own[k] + 4 * z[k];
         let o = other[k];
-        g[k] = site_values::output(q);
-        y[k] = site_values::output(q - o);
+        g[k] = site_values::output(q, black);
+        y[k] = site_values::output(q - o, black);
+        k += 1;
+    }
+}
+
+// The measured colour at its sites: the samples, less the black level.
+pub fn measured(z: &mut [i32; 2064], black: i32, count: usize)
+    requires { ⌜ (count ≤ 2048) × (length (now z) ≡ 2064) × (Sized 4096 4 (count + 4) (now z)) × (natAbs black ≤ 255) ⌝ }
+    ensures { λ _. ⌜ Entries (pos 0) 2064 4 (count + 4) (λ (x : ℕ). getD (now (z .entry)) x (pos 0) -ℤ black) (now (z .exit)) ⌝ }
+{
+    let mut k = 4;
+    while k < count + 4 {
+        z[k] = z[k] - black;
         k += 1;
     }
 }

@@ -48,13 +48,14 @@ pub record Row-differences (f : Frame) (i : ℕ) (own other x y : List ℤ) : Ty
   pub green-own : Green-half f i (colour-difference (mosaic f) (row-colour (f .phase) i)) x
   pub green-other : Green-half f i (colour-difference (mosaic f) (trade (row-colour (f .phase) i))) y
 
-pub record Row-outputs (f : Frame) (i : ℕ) (zx zg xg xo x y : List ℤ) : Type 0 where
-  pub chroma-own : Chroma-half f i (outputs f (row-colour (f .phase) i)) zx
-  pub chroma-green : Chroma-half f i (outputs f green) xg
-  pub chroma-other : Chroma-half f i (outputs f (trade (row-colour (f .phase) i))) xo
-  pub green-green : Green-half f i (outputs f green) zg
-  pub green-own : Green-half f i (outputs f (row-colour (f .phase) i)) x
-  pub green-other : Green-half f i (outputs f (trade (row-colour (f .phase) i))) y
+-- at black level b
+pub record Row-outputs (f : Frame) (b i : ℕ) (zx zg xg xo x y : List ℤ) : Type 0 where
+  pub chroma-own : Chroma-half f i (outputs f b (row-colour (f .phase) i)) zx
+  pub chroma-green : Chroma-half f i (outputs f b green) xg
+  pub chroma-other : Chroma-half f i (outputs f b (trade (row-colour (f .phase) i))) xo
+  pub green-green : Green-half f i (outputs f b green) zg
+  pub green-own : Green-half f i (outputs f b (row-colour (f .phase) i)) x
+  pub green-other : Green-half f i (outputs f b (trade (row-colour (f .phase) i))) y
 
 -- of every frame whose differences stand in work
 pub record Differences-formed (shape : Shape) (i base : ℕ) (tops work own other x y : List ℤ) : Type 0 where
@@ -67,9 +68,10 @@ pub record Outputs-read (f : Frame) (i at : ℕ) (rows : List ℕ) (own other x 
   pub row : Loaded f i at rows
   pub differences : Row-differences f i own other x y
 
--- of every frame whose samples and differences these are
-pub record Outputs-formed (shape : Shape) (i at : ℕ) (rows : List ℕ) (own other x y zx zg xg xo x' y' : List ℤ) : Type 0 where
-  pub row : (zs : List ℕ) → Outputs-read (frame shape zs) i at rows own other x y → Row-outputs (frame shape zs) i zx zg xg xo x' y'
+-- of every frame whose samples and differences these are, at the black level that black is
+pub record Outputs-formed (shape : Shape) (black : ℤ) (i at : ℕ) (rows : List ℕ) (own other x y zx zg xg xo x' y' : List ℤ) : Type 0 where
+  pub row : (b : ℕ) (zs : List ℕ) → black ≡ pos b → Outputs-read (frame shape zs) i at rows own other x y
+      → Row-outputs (frame shape zs) b i zx zg xg xo x' y'
 
 -- a row of three planes of the shape
 pub record Row-stores (shape : Shape) (i start : ℕ) (red-plane green-plane blue-plane : List ℤ) : Type 0 where
@@ -79,10 +81,10 @@ pub record Row-stores (shape : Shape) (i start : ℕ) (red-plane green-plane blu
   pub green-size : length green-plane ≡ shape .height * shape .width
   pub blue-size : length blue-plane ≡ shape .height * shape .width
 
--- of every frame whose outputs stand in the half rows
+-- of every frame and black level whose outputs stand in the half rows
 pub record Plane-row (shape : Shape) (i : ℕ) (c : Colour) (zx zg xg xo x y old new : List ℤ) : Type 0 where
-  pub row : (zs : List ℕ) → Row-outputs (frame shape zs) i zx zg xg xo x y
-      → Wrote (pos 0) (i * shape .width) (shape .width) (outputs (frame shape zs) c i) old new
+  pub row : (b : ℕ) (zs : List ℕ) → Row-outputs (frame shape zs) b i zx zg xg xo x y
+      → Wrote (pos 0) (i * shape .width) (shape .width) (outputs (frame shape zs) b c i) old new
 
 -- ---- the line: row i stands in the ring of rows, its differences and those of the rows one off in work
 pub record Out-lent (f : Frame) (i base : ℕ) (rows : List ℕ) (tops work : List ℤ) : Type 0 where
@@ -90,6 +92,6 @@ pub record Out-lent (f : Frame) (i base : ℕ) (rows : List ℕ) (tops work : Li
   pub row : Loaded f i (place-in-ring i * 4112) rows
 
 -- row i of the plane of a colour
-pub record Out-stores (shape : Shape) (i base : ℕ) (c : Colour) (rows : List ℕ) (tops work old new : List ℤ) : Type 0 where
+pub record Out-stores (shape : Shape) (black i base : ℕ) (c : Colour) (rows : List ℕ) (tops work old new : List ℤ) : Type 0 where
   pub row : (zs : List ℕ) → Out-lent (frame shape zs) i base rows tops work
-      → Wrote (pos 0) (i * shape .width) (shape .width) (outputs (frame shape zs) c i) old new
+      → Wrote (pos 0) (i * shape .width) (shape .width) (outputs (frame shape zs) black c i) old new

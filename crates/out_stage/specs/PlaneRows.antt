@@ -51,26 +51,30 @@ module _ (shape : Shape) (i start : ℕ) (r : Row-of shape i) (e : start ≡ chr
 
   module _ (zx zg xg xo x y old new : List ℤ) where
     pub green-row : Wrote (pos 0) (i * shape .width) (shape .width) (woven start xg zg) old new → Plane-row shape i green zx zg xg xo x y old new
-    green-row w = record { row = λ zs o. woven-row zs (outputs (frame shape zs) green) xg zg (o .chroma-green) (o .green-green) w }
+    green-row w = record { row = λ b zs o. woven-row zs (outputs (frame shape zs) b green) xg zg (o .chroma-green) (o .green-green) w }
 
     -- the plane of the colour that the row has beside green, and that of the other
     pub own-row : (c : Colour) → row-colour (shape .phase) i ≡ c → Wrote (pos 0) (i * shape .width) (shape .width) (woven start zx x) old new
         → Plane-row shape i c zx zg xg xo x y old new
     own-row c k w =
         rw (← k) (record {
-          row = λ zs o. woven-row zs (outputs (frame shape zs) (row-colour (shape .phase) i)) zx x (o .chroma-own) (o .green-own) w;
+          row = λ b zs o. woven-row zs (outputs (frame shape zs) b (row-colour (shape .phase) i)) zx x (o .chroma-own) (o .green-own) w;
         })
 
     pub other-row : (c : Colour) → trade (row-colour (shape .phase) i) ≡ c
         → Wrote (pos 0) (i * shape .width) (shape .width) (woven start xo y) old new → Plane-row shape i c zx zg xg xo x y old new
     other-row c k w =
         rw (← k) (record {
-          row = λ zs o. woven-row zs (outputs (frame shape zs) (trade (row-colour (shape .phase) i))) xo y (o .chroma-other) (o .green-other) w;
+          row = λ b zs o. woven-row zs (outputs (frame shape zs) b (trade (row-colour (shape .phase) i))) xo y (o .chroma-other) (o .green-other) w;
         })
 
 -- the steps of the line, one after the other
-pub out-stored : {shape : Shape} {i base at : ℕ} {c : Colour} {rows : List ℕ} {tops work own other x y zx zg xg xo x' y' old new : List ℤ}
+pub out-stored : {shape : Shape} {black i base at : ℕ} {level : ℤ} {c : Colour} {rows : List ℕ}
+    {tops work own other x y zx zg xg xo x' y' old new : List ℤ}
     → Differences-formed shape i base tops work own other x y → at ≡ place-in-ring i * 4112
-    → Outputs-formed shape i at rows own other x y zx zg xg xo x' y' → Plane-row shape i c zx zg xg xo x' y' old new
-    → Out-stores shape i base c rows tops work old new
-out-stored d e o p = record { row = λ zs lent. p .row zs (o .row zs (outputs-read lent e (d .row zs (lent .reads)))) }
+    → level ≡ pos black → Outputs-formed shape level i at rows own other x y zx zg xg xo x' y'
+    → Plane-row shape i c zx zg xg xo x' y' old new
+    → Out-stores shape black i base c rows tops work old new
+out-stored {black = black} d e is o p = record {
+  row = λ zs lent. p .row black zs (o .row black zs is (outputs-read lent e (d .row zs (lent .reads))));
+}

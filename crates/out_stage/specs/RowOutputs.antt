@@ -12,7 +12,7 @@ use Rattle.toolkit.specs.Entries.{Entries}
 use Rattle.frame.specs.Sites.{Frame, Colour, red, green, blue, sample}
 use Rattle.frame.specs.Colours.{trade, trade-twice, is-green}
 use Rattle.method.specs.Gradients.{mosaic}
-use Rattle.method.specs.Planes.{colour-difference, final-round}
+use Rattle.method.specs.Planes.{colour-difference, final-round, less-black}
 use Rattle.method.specs.Sizes.{colour-difference-size}
 use Rattle.positions.specs.Taken.{Taken}
 use Rattle.positions.specs.Rings.{place-in-ring}
@@ -51,38 +51,44 @@ pub record Row-bounded (n m : ℕ) (own other zx zg x y : List ℤ) : Type 0 whe
   pub x-small : Sized 4096 4 (m + 4) x
   pub y-small : Sized 4096 4 (m + 4) y
 
--- ---- a site of the row
-module _ (f : Frame) (i j : ℕ) where
+-- the code's black level is b
+less : {b : ℕ} {black v w : ℤ} → black ≡ pos b → v ≡ w → v -ℤ black ≡ less-black b w
+unfolding less-black
+less level e = rw (level, e)
+
+-- ---- a site of the row, at black level b
+module _ (f : Frame) (i j b : ℕ) {black : ℤ} (level : black ≡ pos b) where
   abbrev own : Colour
   own = row-colour (f .phase) i
 
   -- red and blue sites
   module _ (site : j % 2 ≡ chroma-start (f .phase) i) where
-    chroma-measured : pos (sample f i j) ≡ outputs f own i j
+    chroma-measured : pos (sample f i j) -ℤ black ≡ outputs f b own i j
     unfolding outputs mosaic
-    chroma-measured = measured-output (mosaic f) own i j (chroma-colour (f .phase) i j site)
+    chroma-measured = less level (measured-output (mosaic f) own i j (chroma-colour (f .phase) i j site))
 
-    chroma-green : final-round (finals f i j +ℤ pos 4 *ℤ pos (sample f i j)) ≡ outputs f green i j
+    chroma-green : final-round (finals f i j +ℤ pos 4 *ℤ pos (sample f i j)) -ℤ black ≡ outputs f b green i j
     unfolding outputs finals mosaic
-    chroma-green = green-output (mosaic f) i j (ap is-green (chroma-colour (f .phase) i j site) ∙ row-not-green (f .phase) i)
+    chroma-green = less level (green-output (mosaic f) i j (ap is-green (chroma-colour (f .phase) i j site) ∙ row-not-green (f .phase) i))
 
-    chroma-other : final-round (finals f i j +ℤ pos 4 *ℤ pos (sample f i j) -ℤ others f i j) ≡ outputs f (trade own) i j
+    chroma-other : final-round (finals f i j +ℤ pos 4 *ℤ pos (sample f i j) -ℤ others f i j) -ℤ black ≡ outputs f b (trade own) i j
     unfolding outputs finals mosaic
     chroma-other =
         let e = chroma-colour (f .phase) i j site ∙ sym (trade-twice own) in
-        ap (λ (o : ℤ). final-round (finals f i j +ℤ pos 4 *ℤ pos (sample f i j) -ℤ o)) (other-difference f (trade own) i j e)
-        ∙ other-output (mosaic f) (trade own) i j (traded-not-green own (row-not-green (f .phase) i)) e
+        less level
+        (ap (λ (o : ℤ). final-round (finals f i j +ℤ pos 4 *ℤ pos (sample f i j) -ℤ o)) (other-difference f (trade own) i j e)
+        ∙ other-output (mosaic f) (trade own) i j (traded-not-green own (row-not-green (f .phase) i)) e)
 
   -- green sites
   module _ (site : ¬ (j % 2 ≡ chroma-start (f .phase) i)) where
-    green-measured : pos (sample f i j) ≡ outputs f green i j
+    green-measured : pos (sample f i j) -ℤ black ≡ outputs f b green i j
     unfolding outputs mosaic
-    green-measured = measured-output (mosaic f) green i j (second-half-green (f .phase) i j site)
+    green-measured = less level (measured-output (mosaic f) green i j (second-half-green (f .phase) i j site))
 
     green-missing : (c : Colour) → is-green c ≡ false
-        → final-round (pos 4 *ℤ pos (sample f i j) -ℤ colour-difference (mosaic f) c i j) ≡ outputs f c i j
+        → final-round (pos 4 *ℤ pos (sample f i j) -ℤ colour-difference (mosaic f) c i j) -ℤ black ≡ outputs f b c i j
     unfolding outputs mosaic
-    green-missing c h = missing-output (mosaic f) c i j h (second-half-green (f .phase) i j site)
+    green-missing c h = less level (missing-output (mosaic f) c i j h (second-half-green (f .phase) i j site))
 
 -- ---- the row, whose first half starts at column c and has n sites, its second m
 module _ (f : Frame) (i at c n m : ℕ) (ec : c ≡ chroma-start (f .phase) i) (en : n ≡ chroma-count f i) (em : m ≡ f .width - chroma-count f i)
@@ -157,30 +163,37 @@ module _ (f : Frame) (i at c n m : ℕ) (ec : c ≡ chroma-start (f .phase) i) (
       → Half (f .width) (1 - c) 4 (m + 4) q row → Half (f .width) (1 - chroma-start (f .phase) i) 4 (f .width - chroma-count f i + 4) q' row
   second-told q q' same h = half-as (f .width) q' (sym even) em (half-same (f .width) (1 - c) (t .wide) (λ j l e. same j (second-site j e)) h)
 
-  -- a colour at the green sites
-  missing : (k : Colour) (before after : List ℤ) → is-green k ≡ false → Green-half f i (colour-difference (mosaic f) k) before
-      → Entries (pos 0) 2064 4 (m + 4) (λ (v : ℕ). final-round (pos 4 *ℤ getD zg v (pos 0) -ℤ getD before v (pos 0))) after
-      → Green-half f i (outputs f k) after
-  missing k before after h b e = second-told _ (outputs f k i) (λ j site. green-missing f i j site k h)
-      (half-of-three (f .width) (1 - c) (t .wide) (λ (z v w : ℤ). final-round (pos 4 *ℤ z -ℤ v)) measured (difference k) measured zg-half
-      (second (difference k) b) zg-half e)
+  -- ---- at black level b
+  module _ (b : ℕ) {black : ℤ} (level : black ≡ pos b) where
+    -- a colour at the green sites
+    missing : (k : Colour) (before after : List ℤ) → is-green k ≡ false → Green-half f i (colour-difference (mosaic f) k) before
+        → Entries (pos 0) 2064 4 (m + 4) (λ (v : ℕ). final-round (pos 4 *ℤ getD zg v (pos 0) -ℤ getD before v (pos 0)) -ℤ black) after
+        → Green-half f i (outputs f b k) after
+    missing k before after h d e = second-told _ (outputs f b k i) (λ j site. green-missing f i j b level site k h)
+        (half-of-three (f .width) (1 - c) (t .wide) (λ (z v w : ℤ). final-round (pos 4 *ℤ z -ℤ v) -ℤ black) measured (difference k) measured
+        zg-half (second (difference k) d) zg-half e)
 
-  pub outputs-are : (xg xo x' y' : List ℤ)
-      → Entries (pos 0) 2064 4 (n + 4) (λ (k : ℕ). final-round (getD own k (pos 0) +ℤ pos 4 *ℤ getD zx k (pos 0))) xg
-      → Entries (pos 0) 2064 4 (n + 4) (λ (k : ℕ). final-round (getD own k (pos 0) +ℤ pos 4 *ℤ getD zx k (pos 0) -ℤ getD other k (pos 0))) xo
-      → Entries (pos 0) 2064 4 (m + 4) (λ (k : ℕ). final-round (pos 4 *ℤ getD zg k (pos 0) -ℤ getD x k (pos 0))) x'
-      → Entries (pos 0) 2064 4 (m + 4) (λ (k : ℕ). final-round (pos 4 *ℤ getD zg k (pos 0) -ℤ getD y k (pos 0))) y'
-      → Row-outputs f i zx zg xg xo x' y'
-  outputs-are xg xo x' y' eg eo ex ey = record {
-    chroma-own = first-told _ _ (λ j site. chroma-measured f i j site) zx-half;
-    chroma-green = first-told _ (outputs f green i) (λ j site. chroma-green f i j site)
-        (half-of-three (f .width) c (t .wide) (λ (a z o : ℤ). final-round (a +ℤ pos 4 *ℤ z)) (finals f i) measured (others f i)
-        own-half zx-half other-half eg);
-    chroma-other = first-told _ (outputs f (trade (row-colour (f .phase) i)) i) (λ j site. chroma-other f i j site)
-        (half-of-three (f .width) c (t .wide) (λ (a z o : ℤ). final-round (a +ℤ pos 4 *ℤ z -ℤ o)) (finals f i) measured (others f i)
-        own-half zx-half other-half eo);
-    green-green = second-told _ _ (λ j site. green-measured f i j site) zg-half;
-    green-own = missing (row-colour (f .phase) i) x x' (row-not-green (f .phase) i) (d .green-own) ex;
-    green-other = missing (trade (row-colour (f .phase) i)) y y' (traded-not-green (row-colour (f .phase) i) (row-not-green (f .phase) i))
-        (d .green-other) ey;
-  }
+    pub outputs-are : (xg xo x' y' zx' zg' : List ℤ)
+        → Entries (pos 0) 2064 4 (n + 4) (λ (k : ℕ). final-round (getD own k (pos 0) +ℤ pos 4 *ℤ getD zx k (pos 0)) -ℤ black) xg
+        → Entries (pos 0) 2064 4 (n + 4)
+        (λ (k : ℕ). final-round (getD own k (pos 0) +ℤ pos 4 *ℤ getD zx k (pos 0) -ℤ getD other k (pos 0)) -ℤ black) xo
+        → Entries (pos 0) 2064 4 (m + 4) (λ (k : ℕ). final-round (pos 4 *ℤ getD zg k (pos 0) -ℤ getD x k (pos 0)) -ℤ black) x'
+        → Entries (pos 0) 2064 4 (m + 4) (λ (k : ℕ). final-round (pos 4 *ℤ getD zg k (pos 0) -ℤ getD y k (pos 0)) -ℤ black) y'
+        → Entries (pos 0) 2064 4 (n + 4) (λ (k : ℕ). getD zx k (pos 0) -ℤ black) zx'
+        → Entries (pos 0) 2064 4 (m + 4) (λ (k : ℕ). getD zg k (pos 0) -ℤ black) zg'
+        → Row-outputs f b i zx' zg' xg xo x' y'
+    outputs-are xg xo x' y' zx' zg' eg eo ex ey ezx ezg = record {
+      chroma-own = first-told _ (outputs f b (row-colour (f .phase) i) i) (λ j site. chroma-measured f i j b level site)
+          (half-of-three (f .width) c (t .wide) (λ (z a o : ℤ). z -ℤ black) measured (finals f i) (others f i) zx-half own-half other-half ezx);
+      chroma-green = first-told _ (outputs f b green i) (λ j site. chroma-green f i j b level site)
+          (half-of-three (f .width) c (t .wide) (λ (a z o : ℤ). final-round (a +ℤ pos 4 *ℤ z) -ℤ black) (finals f i) measured (others f i)
+          own-half zx-half other-half eg);
+      chroma-other = first-told _ (outputs f b (trade (row-colour (f .phase) i)) i) (λ j site. chroma-other f i j b level site)
+          (half-of-three (f .width) c (t .wide) (λ (a z o : ℤ). final-round (a +ℤ pos 4 *ℤ z -ℤ o) -ℤ black) (finals f i) measured (others f i)
+          own-half zx-half other-half eo);
+      green-green = second-told _ (outputs f b green i) (λ j site. green-measured f i j b level site)
+          (half-of-three (f .width) (1 - c) (t .wide) (λ (z v w : ℤ). z -ℤ black) measured measured measured zg-half zg-half zg-half ezg);
+      green-own = missing (row-colour (f .phase) i) x x' (row-not-green (f .phase) i) (d .green-own) ex;
+      green-other = missing (trade (row-colour (f .phase) i)) y y' (traded-not-green (row-colour (f .phase) i) (row-not-green (f .phase) i))
+          (d .green-other) ey;
+    }

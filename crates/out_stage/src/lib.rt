@@ -4,6 +4,7 @@ use out_rows::Places;
 ghost use mathlib.Core.Path.{_≡_};
 ghost use mathlib.Core.List.{List};
 ghost use Prim.Native.Nat.{ℕ, _+_, _*_, _≤_};
+ghost use lib.IntN.{pos, natAbs};
 ghost use lib.ListN.{length};
 ghost use Rattle.frame.specs.Sites.{Colour, frame};
 ghost use Rattle.positions.specs.Taken.{Some-samples};
@@ -45,11 +46,20 @@ fn row_differences(
     out_rows::direct_means(work, p, n, own, other, x, y);
 }
 
+// A black level as a signed number.
+fn signed(black: usize) -> i32
+    requires { ⌜ black ≤ 255 ⌝ }
+    ensures { λ r. ⌜ r ≡ pos black ⌝ }
+{
+    black as i32
+}
+
 // The outputs of row i, whose samples stand from entry at on: in zx, xg and xo at its red and blue sites, in zg, x and y at its green sites.
 fn row_outputs(
     rows: &[u16; 98688],
     at: usize,
     shape: Shape,
+    black: i32,
     i: usize,
     p: Places,
     own: &[i32; 2064],
@@ -62,19 +72,22 @@ fn row_outputs(
     y: &mut [i32; 2064],
 )
     requires { ⌜ Some-samples (λ (zs : List ℕ). Outputs-read (frame shape zs) i at (now rows) (now own) (now other) (now x) (now y)) ⌝ }
-    requires { ⌜ (Placed shape i p) × (at + 4112 ≤ 98688) ⌝ }
+    requires { ⌜ (Placed shape i p) × (at + 4112 ≤ 98688) × (natAbs black ≤ 255) ⌝ }
     requires { ⌜ (length (now zx) ≡ 2064) × (length (now zg) ≡ 2064) × (length (now xg) ≡ 2064) × (length (now xo) ≡ 2064) ⌝ }
-    ensures { λ _. ⌜ Outputs-formed shape i at (now (rows .entry)) (now (own .entry)) (now (other .entry)) (now (x .entry)) (now (y .entry))
-        (now (zx .exit)) (now (zg .exit)) (now (xg .exit)) (now (xo .exit)) (now (x .exit)) (now (y .exit)) ⌝ }
+    ensures { λ _. ⌜ Outputs-formed shape black i at (now (rows .entry)) (now (own .entry)) (now (other .entry)) (now (x .entry))
+        (now (y .entry)) (now (zx .exit)) (now (zg .exit)) (now (xg .exit)) (now (xo .exit)) (now (x .exit)) (now (y .exit)) ⌝ }
 {
     let start = p.start;
     let count = p.count;
     let rest = p.rest;
     out_rows::samples(rows, at, start, count, zx);
     out_rows::samples(rows, at, 1 - start, rest, zg);
-    out_rows::chroma_sites(own, other, zx, xg, xo, count);
-    out_rows::green_sites(zg, x, rest);
-    out_rows::green_sites(zg, y, rest);
+    out_rows::chroma_sites(own, other, zx, black, xg, xo, count);
+    out_rows::green_sites(zg, black, x, rest);
+    out_rows::green_sites(zg, black, y, rest);
+    // last: the others are formed from the samples as they are
+    out_rows::measured(zx, black, count);
+    out_rows::measured(zg, black, rest);
 }
 
 // The outputs of row i, stored to the planes.
@@ -117,6 +130,7 @@ pub fn out_line(
     rows: &[u16; 98688],
     tops: &[i32],
     shape: Shape,
+    black: usize,
     work: &[i32],
     i: usize,
     base: usize,
@@ -135,14 +149,14 @@ pub fn out_line(
 )
     requires { ⌜ Some-samples (λ (zs : List ℕ). Out-lent (frame shape zs) i base (now rows) (now tops) (now work)) ⌝ }
     requires { ⌜ (length (now red) ≡ shape .height * shape .width) × (length (now green) ≡ shape .height * shape .width)
-        × (length (now blue) ≡ shape .height * shape .width) ⌝ }
+        × (length (now blue) ≡ shape .height * shape .width) × (black ≤ 255) ⌝ }
     requires { ⌜ (length (now n) ≡ 2064) × (length (now own) ≡ 2064) × (length (now other) ≡ 2064) × (length (now zx) ≡ 2064)
         × (length (now zg) ≡ 2064) × (length (now xg) ≡ 2064) × (length (now xo) ≡ 2064) × (length (now x) ≡ 2064) × (length (now y) ≡ 2064) ⌝ }
-    ensures { λ _. ⌜ Out-stores shape i base Colour.red (now (rows .entry)) (now (tops .entry)) (now (work .entry))
+    ensures { λ _. ⌜ Out-stores shape black i base Colour.red (now (rows .entry)) (now (tops .entry)) (now (work .entry))
         (now (red .entry)) (now (red .exit)) ⌝ }
-    ensures { λ _. ⌜ Out-stores shape i base Colour.green (now (rows .entry)) (now (tops .entry)) (now (work .entry))
+    ensures { λ _. ⌜ Out-stores shape black i base Colour.green (now (rows .entry)) (now (tops .entry)) (now (work .entry))
         (now (green .entry)) (now (green .exit)) ⌝ }
-    ensures { λ _. ⌜ Out-stores shape i base Colour.blue (now (rows .entry)) (now (tops .entry)) (now (work .entry))
+    ensures { λ _. ⌜ Out-stores shape black i base Colour.blue (now (rows .entry)) (now (tops .entry)) (now (work .entry))
         (now (blue .entry)) (now (blue .exit)) ⌝ }
     ensures { λ _. ⌜ (length (now (n .exit)) ≡ 2064) × (length (now (own .exit)) ≡ 2064) × (length (now (other .exit)) ≡ 2064)
         × (length (now (zx .exit)) ≡ 2064) × (length (now (zg .exit)) ≡ 2064) × (length (now (xg .exit)) ≡ 2064)
@@ -150,7 +164,8 @@ pub fn out_line(
 {
     let p = out_rows::row_places(shape, i, base);
     let at = mosaic_rows::row_at(i, base);
+    let b = signed(black);
     row_differences(tops, work, shape, i, base, p, n, own, other, x, y);
-    row_outputs(rows, at, shape, i, p, own, other, zx, zg, xg, xo, x, y);
+    row_outputs(rows, at, shape, b, i, p, own, other, zx, zg, xg, xo, x, y);
     store_outputs(shape, i, p.start, zx, zg, xg, xo, x, y, red, green, blue);
 }

@@ -8,17 +8,16 @@ use lib.ListN.{length}
 use Rattle.toolkit.specs.Tests.{ltb-no}
 use Rattle.frame.specs.declared.Answer.the-variants.{Done}
 use Rattle.frame.specs.Sites.{Frame}
-use Rattle.frame.specs.Calls.{Admitted, lengths-allowed, develop-answer}
-use Rattle.frame.specs.Admission.{least-allowed, admitted-done}
+use Rattle.frame.specs.Calls.{Admitted, develop-answer}
+use Rattle.frame.specs.Admission.{least-allowed, admitted-done, admitted-at-zero}
 use Rattle.frame_file.specs.Lists.{Below}
 use Rattle.frame_file.specs.FrameFile.{block-count, file-length, reading, accepted}
 use Rattle.frame_file.specs.WrittenFile.{length-written-file}
 use Rattle.frame_file.specs.AcceptedExactlyWhenWritten.{WrittenFrom, accepted-is-written}
-use Rattle.printing.specs.Printing.{lent, frame-text, printed}
+use Rattle.printing.specs.Printing.{black-level, lent, frame-text, printed}
 
-pub admitted-developed : (f : Frame) → Admitted f → develop-answer f (lent f) ≡ Done
-unfolding develop-answer
-admitted-developed f a = admitted-done f (lengths-allowed f (lent f)) (least-allowed f) a
+pub admitted-developed : (f : Frame) → Admitted f → develop-answer f black-level (lent f) ≡ Done
+admitted-developed f a = admitted-done f black-level (lent f) (least-allowed f) (admitted-at-zero f a)
 
 -- its file is at most 2,048 bytes long: block 0 and three of samples
 accepted-short : (file : List ℕ) (f : Frame) → WrittenFrom f file 1024 → length file ≤ 2048

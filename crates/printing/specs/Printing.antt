@@ -53,9 +53,13 @@ refused-word = 114 ∷ 101 ∷ 102 ∷ 117 ∷ 115 ∷ 101 ∷ 100 ∷ []
 unfoldable pub refusal-text : Refusal → List ℕ
 refusal-text why = refused-word ++ (space ∷ numbers-line (number-and-place why .number ∷ number-and-place why .place ∷ []))
 
+-- document 02, A2, "The programs use b = 0."
+abbrev pub black-level : ℕ
+black-level = 0
+
 -- entry i·W + j of the plane of the colour c that develop leaves, as clamp leaves it
 unfoldable pub clamped-at : Frame → Colour → ℕ → ℕ → ℕ
-clamped-at f c i j = natAbs (getD (clamped (plane f c)) (i * f .width + j) (pos 0))
+clamped-at f c i j = natAbs (getD (clamped (plane f black-level c)) (i * f .width + j) (pos 0))
 
 -- "it prints row, column and colours": the line of the site (i,j), its colours clamped
 unfoldable pub site-text : Frame → ℕ → ℕ → List ℕ
@@ -75,7 +79,7 @@ developed-text f (Refused why) = refusal-text why
 
 -- what is printed by what read finds
 abbrev pub text-of : File.Reading → List ℕ
-text-of (File.accepted f) = developed-text f (develop-answer f (lent f))
+text-of (File.accepted f) = developed-text f (develop-answer f black-level (lent f))
 text-of (File.refused why) = refusal-text why
 
 -- "The program reads one file from standard input into 2,048 bytes (a longer one prints `refused 4 0` before any other test) and 1,024

@@ -17,9 +17,8 @@ use Rattle.frame.specs.declared.Answer.the-variants.{Done, Refused}
 use Rattle.frame.specs.declared.ReadAnswer.{ReadAnswer}
 use Rattle.frame.specs.declared.ReadAnswer.the-variants as Read
 use Rattle.frame.specs.Sites.{Frame}
-use Rattle.frame.specs.Calls.{tested}
+use Rattle.frame.specs.Calls.{tested, and-then}
 use Rattle.frame.specs.Admission.{refused-not-done, tested-done, side-high}
-use Rattle.admission.specs.ShapeTest.{and-then}
 use Rattle.block.specs.BlockTest.{block-answer}
 use Rattle.frame_file.specs.Lists.{all-zero}
 use Rattle.frame_file.specs.FrameFile.{block, header, header-filler, sample-count, block-count, file-length, stored-samples, stored-frame, Reading, accepted, refused, length-allowed, check-holds, number-holds, header-allowed, filler-holds, later-blocks, reading, read-answer, samples-after-read}

@@ -13,7 +13,8 @@ use Rattle.frame.specs.declared.Refusal.{Refusal}
 use Rattle.frame.specs.declared.Refusal.the-variants.{FileLength, Header, Filler}
 use Rattle.frame.specs.declared.Answer.{Answer}
 use Rattle.frame.specs.declared.Answer.the-variants.{Done, Refused}
-use Rattle.admission.specs.ShapeTest.{shape-allowed, and-then}
+use Rattle.frame.specs.Calls.{and-then}
+use Rattle.admission.specs.ShapeTest.{shape-allowed}
 use Rattle.block.specs.BlockTest.{block-answer}
 use Rattle.frame_file.specs.Lists.{slice-part, part-part, all-zero, all-zero-drop}
 use Rattle.frame_file.specs.FrameFile.{block, block-filler, has-tag, header, header-filler, payload, unpacked-payload, length-allowed, header-allowed, filler-holds}

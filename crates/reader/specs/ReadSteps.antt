@@ -5,8 +5,7 @@ use lib.ListN.{length}
 use Rattle.frame.specs.declared.Refusal.the-variants.{FileLength, Header, Filler}
 use Rattle.frame.specs.declared.Answer.{Answer}
 use Rattle.frame.specs.declared.Answer.the-variants.{Done}
-use Rattle.frame.specs.Calls.{tested}
-use Rattle.admission.specs.ShapeTest.{and-then}
+use Rattle.frame.specs.Calls.{tested, and-then}
 use Rattle.block.specs.BlockTest.{block-answer}
 use Rattle.frame_file.specs.Lists.{all-zero}
 use Rattle.frame_file.specs.FrameFile.{block, header-filler, length-allowed, header-allowed, filler-holds}

@@ -7,7 +7,7 @@ use Rattle.frame.specs.Sites.{Frame, Colour}
 use Rattle.frame.specs.Colours.{trade}
 use Rattle.method.specs.Gradients.{mosaic, gradients-at}
 use Rattle.method.specs.Green.{Direction, horizontal, Outcome, outcome-at, trial-difference, decision-code, decided, decision-entry}
-use Rattle.method.specs.Planes.{green-difference, final-difference, chroma-site-difference, output}
+use Rattle.method.specs.Planes.{green-difference, final-difference, chroma-site-difference, output, less-black}
 use Rattle.positions.specs.HalfRows.{chroma-start, chroma-count, in-halves}
 use Rattle.records.specs.Layout.{south-part}
 
@@ -52,9 +52,9 @@ finals f = final-difference (mosaic f)
 unfoldable pub others : Frame → ℕ → ℕ → ℤ
 others f i j = chroma-site-difference (mosaic f) (trade (mosaic f .colour-at i j)) i j
 
--- the three numbers
-unfoldable pub outputs : Frame → Colour → ℕ → ℕ → ℤ
-outputs f c = output (mosaic f) c
+-- the three numbers at black level b
+unfoldable pub outputs : Frame → ℕ → Colour → ℕ → ℕ → ℤ
+outputs f b c i j = less-black b (output (mosaic f) c i j)
 
 -- the entries of the map
 unfoldable pub decisions : Frame → ℕ → ℕ → ℕ

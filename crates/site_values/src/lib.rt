@@ -1,7 +1,7 @@
 // The last numbers of a site: the gradients of its corners, its final difference and its outputs.
 ghost use mathlib.Core.Path.{_≡_};
 ghost use Prim.Native.Nat.{_≤_};
-ghost use lib.IntN.{pos, natAbs, _+ℤ_, _*ℤ_};
+ghost use lib.IntN.{pos, natAbs, _+ℤ_, _-ℤ_, _*ℤ_};
 ghost use Rattle.method.specs.Planes.{corner-gradients, fused, final-round};
 ghost use Rattle.method.specs.Four.{directions, sizes, listed};
 ghost use Rattle.method.specs.Sizes.{Naturals};
@@ -38,10 +38,10 @@ pub fn fuse(d: i32, m: i32) -> i32
     ((shares(d, m) + 100) / 200) as i32 - 16384
 }
 
-// The output of a number in quarters.
-pub fn output(q: i32) -> i32
-    requires { ⌜ natAbs q ≤ 1000000 ⌝ }
-    ensures { λ r. ⌜ r ≡ final-round q ⌝ }
+// The output of a number in quarters: it is rounded, then the black level is taken off.
+pub fn output(q: i32, black: i32) -> i32
+    requires { ⌜ (natAbs q ≤ 1000000) × (natAbs black ≤ 255) ⌝ }
+    ensures { λ r. ⌜ r ≡ final-round q -ℤ black ⌝ }
 {
-    (q + 2) >> 2
+    ((q + 2) >> 2) - black
 }

@@ -105,8 +105,8 @@ pub record Out-asks (f : Frame) (t base : ℕ) (rows : List ℕ) (tops work : Li
   pub own : Chroma-kept f (final-part (f .width)) (t - 20 - 1) (min (t + 2 - 20) (f .height)) (finals f) work
   pub other : Chroma-kept f (other-part (f .width)) (t - 20 - 1) (min (t + 2 - 20) (f .height)) (others f) work
 
-abbrev pub Out-turn : Frame → ℕ → Colour → List ℤ → List ℤ → Type 0
-Out-turn f t c old new = Turn (f .height) 20 t (f .width) 0 (λ r. f .width) (outputs f c) old new
+abbrev pub Out-turn : Frame → ℕ → ℕ → Colour → List ℤ → List ℤ → Type 0
+Out-turn f black t c old new = Turn (f .height) 20 t (f .width) 0 (λ r. f .width) (outputs f black c) old new
 
-pub record Out-turned (shape : Shape) (t base : ℕ) (c : Colour) (rows : List ℕ) (tops work old new : List ℤ) : Type 0 where
-  pub turn : (zs : List ℕ) → Out-asks (frame shape zs) t base rows tops work → Out-turn (frame shape zs) t c old new
+pub record Out-turned (shape : Shape) (black t base : ℕ) (c : Colour) (rows : List ℕ) (tops work old new : List ℤ) : Type 0 where
+  pub turn : (zs : List ℕ) → Out-asks (frame shape zs) t base rows tops work → Out-turn (frame shape zs) black t c old new

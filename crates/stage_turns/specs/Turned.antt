@@ -88,6 +88,6 @@ module _ {shape : Shape} {t : ℕ} {old new : List ℤ} where
       → Diagonal-turned shape t base tops old new
   diagonal-turned a l s = record { turn = λ zs k. turn-made a (omega arith) (s .row zs (diagonal-reads k a l)) }
 
-pub out-turned : {shape : Shape} {t base : ℕ} {c : Colour} {rows : List ℕ} {tops work old new : List ℤ} → 20 ≤ t → t - 20 < shape .height
-    → Out-stores shape (t - 20) base c rows tops work old new → Out-turned shape t base c rows tops work old new
+pub out-turned : {shape : Shape} {black t base : ℕ} {c : Colour} {rows : List ℕ} {tops work old new : List ℤ} → 20 ≤ t → t - 20 < shape .height
+    → Out-stores shape black (t - 20) base c rows tops work old new → Out-turned shape black t base c rows tops work old new
 out-turned a l s = record { turn = λ zs k. turn-front a (omega arith) (s .row zs (out-lent k a l)) }

@@ -2,7 +2,7 @@
 use frame::Shape;
 ghost use mathlib.Core.Path.{_≡_};
 ghost use mathlib.Core.List.{List};
-ghost use Prim.Native.Nat.{ℕ, _*_};
+ghost use Prim.Native.Nat.{ℕ, _*_, _≤_};
 ghost use lib.ListN.{length};
 ghost use Rattle.frame.specs.Sites.{Colour, frame};
 ghost use Rattle.positions.specs.Taken.{Taken, Some-samples};
@@ -170,11 +170,12 @@ pub fn diagonal_turn(
     }
 }
 
-// The three numbers of row t − 20.
+// The three numbers of row t − 20, at a black level.
 pub fn out_turn(
     rows: &[u16; 98688],
     tops: &[i32],
     shape: Shape,
+    black: usize,
     work: &[i32],
     t: usize,
     base: usize,
@@ -193,13 +194,13 @@ pub fn out_turn(
 )
     requires { ⌜ Some-samples (λ (zs : List ℕ). Out-asks (frame shape zs) t base (now rows) (now tops) (now work)) ⌝ }
     requires { ⌜ (length (now red) ≡ shape .height * shape .width) × (length (now green) ≡ shape .height * shape .width)
-        × (length (now blue) ≡ shape .height * shape .width) ⌝ }
+        × (length (now blue) ≡ shape .height * shape .width) × (black ≤ 255) ⌝ }
     requires { ⌜ Half-arrays (now n) (now a) (now b) (now d) (now e) (now f) (now g) (now l) (now m) ⌝ }
-    ensures { λ _. ⌜ Out-turned shape t base Colour.red (now (rows .entry)) (now (tops .entry)) (now (work .entry)) (now (red .entry))
+    ensures { λ _. ⌜ Out-turned shape black t base Colour.red (now (rows .entry)) (now (tops .entry)) (now (work .entry)) (now (red .entry))
         (now (red .exit)) ⌝ }
-    ensures { λ _. ⌜ Out-turned shape t base Colour.green (now (rows .entry)) (now (tops .entry)) (now (work .entry)) (now (green .entry))
+    ensures { λ _. ⌜ Out-turned shape black t base Colour.green (now (rows .entry)) (now (tops .entry)) (now (work .entry)) (now (green .entry))
         (now (green .exit)) ⌝ }
-    ensures { λ _. ⌜ Out-turned shape t base Colour.blue (now (rows .entry)) (now (tops .entry)) (now (work .entry)) (now (blue .entry))
+    ensures { λ _. ⌜ Out-turned shape black t base Colour.blue (now (rows .entry)) (now (tops .entry)) (now (work .entry)) (now (blue .entry))
         (now (blue .exit)) ⌝ }
     ensures { λ _. ⌜ Half-arrays (now (n .exit)) (now (a .exit)) (now (b .exit)) (now (d .exit)) (now (e .exit)) (now (f .exit))
         (now (g .exit)) (now (l .exit)) (now (m .exit)) ⌝ }
@@ -213,6 +214,7 @@ pub fn out_turn(
             rows,
             tops,
             shape,
+            black,
             work,
             i,
             base,

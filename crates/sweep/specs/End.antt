@@ -26,18 +26,19 @@ held-all {A} {d} H W q buffer wide size h = is-tabulate (H * W) (λ (k : ℕ). q
     subst (λ (x : ℕ). getD buffer x d ≡ q (k / W) (k % W)) e
     (h .row (k / W) (omega arith) (div-lt-iff-lt-mul {k = W} {x = k} {y = H} (omega arith) .1 l) (k % W) (mod-lt k (omega arith))))
 
-shown-all : (f : Frame) (t : ℕ) (c : Colour) (buffer : List ℤ) → Taken f → t ≡ f .height + 20 → Plane-size f buffer → Shown f t c buffer
-    → buffer ≡ plane f c
+shown-all : (f : Frame) (black t : ℕ) (c : Colour) (buffer : List ℤ) → Taken f → t ≡ f .height + 20 → Plane-size f buffer
+    → Shown f black t c buffer → buffer ≡ plane f black c
 unfolding plane outputs
-shown-all f t c buffer taken e size h = held-all (f .height) (f .width) (outputs f c) buffer (taken .wide) size (held-part h (omega arith) (omega arith))
+shown-all f black t c buffer taken e size h =
+    held-all (f .height) (f .width) (outputs f black c) buffer (taken .wide) size (held-part h (omega arith) (omega arith))
 
-pub sweep-all : (f : Frame) (t : ℕ) (tops work red green blue : List ℤ) (map : List ℕ) → t ≡ f .height + 20
-    → Sweep f t t t t t tops work red green blue map
-    → (red ≡ plane f Colour.red) × (green ≡ plane f Colour.green) × (blue ≡ plane f Colour.blue) × (map ≡ decision-map f)
+pub sweep-all : (f : Frame) (black t : ℕ) (tops work red green blue : List ℤ) (map : List ℕ) → t ≡ f .height + 20
+    → Sweep f black t t t t t tops work red green blue map
+    → (red ≡ plane f black Colour.red) × (green ≡ plane f black Colour.green) × (blue ≡ plane f black Colour.blue) × (map ≡ decision-map f)
 unfolding decision-map decisions
-sweep-all f t tops work red green blue map e s = (
-  shown-all f t Colour.red red (s .buffers .taken) e (s .red-size) (s .reds),
-  shown-all f t Colour.green green (s .buffers .taken) e (s .green-size) (s .greens-shown),
-  shown-all f t Colour.blue blue (s .buffers .taken) e (s .blue-size) (s .blues),
+sweep-all f black t tops work red green blue map e s = (
+  shown-all f black t Colour.red red (s .buffers .taken) e (s .red-size) (s .reds),
+  shown-all f black t Colour.green green (s .buffers .taken) e (s .green-size) (s .greens-shown),
+  shown-all f black t Colour.blue blue (s .buffers .taken) e (s .blue-size) (s .blues),
   held-all (f .height) (f .width) (decisions f) map (s .buffers .taken .wide) (s .map-size) (held-part (s .decided) (omega arith) (omega arith)),
 )

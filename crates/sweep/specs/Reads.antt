@@ -11,9 +11,9 @@ use Rattle.stage_turns.specs.RowsDue.{rows-part, sums-part, gradients-part}
 use Rattle.sweep.specs.Loads.{Mosaic-kept}
 use Rattle.sweep.specs.Invariant.{Sweep}
 
-module _ {f : Frame} {t base : ℕ} {tops work red green blue : List ℤ} {map : List ℕ} where
+module _ {f : Frame} {black t base : ℕ} {tops work red green blue : List ℤ} {map : List ℕ} where
   pub first-asks : {rows alongs : List ℕ} → Round base (t - 24) t → Mosaic-kept f (t + 1) rows alongs
-      → Sweep f t t t t t tops work red green blue map → First-asks f t base rows alongs tops work
+      → Sweep f black t t t t t tops work red green blue map → First-asks f t base rows alongs tops work
   first-asks r m s = record {
     buffers = s .buffers;
     round = r;
@@ -22,7 +22,8 @@ module _ {f : Frame} {t base : ℕ} {tops work red green blue : List ℤ} {map :
     above = gradients-part (s .gradients) (omega arith) (omega arith);
   }
 
-  pub enhance-asks : Round base (t - 24) t → Sweep f (t + 1) (t + 1) t t t tops work red green blue map → Enhance-asks f t base tops work green
+  pub enhance-asks : Round base (t - 24) t → Sweep f black (t + 1) (t + 1) t t t tops work red green blue map
+      → Enhance-asks f t base tops work green
   enhance-asks r s = record {
     buffers = s .buffers;
     round = r;
@@ -31,7 +32,8 @@ module _ {f : Frame} {t base : ℕ} {tops work red green blue : List ℤ} {map :
     differences = held-part (s .differences) (omega arith) (omega arith);
   }
 
-  pub diagonal-asks : Round base (t - 24) t → Sweep f (t + 1) (t + 1) (t + 1) t t tops work red green blue map → Diagonal-asks f t base tops work
+  pub diagonal-asks : Round base (t - 24) t → Sweep f black (t + 1) (t + 1) (t + 1) t t tops work red green blue map
+      → Diagonal-asks f t base tops work
   diagonal-asks r s = record {
     buffers = s .buffers;
     round = r;
@@ -40,7 +42,7 @@ module _ {f : Frame} {t base : ℕ} {tops work red green blue : List ℤ} {map :
   }
 
   pub out-asks : {rows alongs : List ℕ} → Round base (t - 24) t → Mosaic-kept f (t + 1) rows alongs
-      → Sweep f (t + 1) (t + 1) (t + 1) (t + 1) t tops work red green blue map → Out-asks f t base rows tops work
+      → Sweep f black (t + 1) (t + 1) (t + 1) (t + 1) t tops work red green blue map → Out-asks f t base rows tops work
   out-asks r m s = record {
     buffers = s .buffers;
     round = r;
@@ -50,8 +52,8 @@ module _ {f : Frame} {t base : ℕ} {tops work red green blue : List ℤ} {map :
     other = held-part (s .other) (omega arith) (omega arith);
   }
 
-pub second-asks : {f : Frame} {t : ℕ} {tops work red green blue : List ℤ} {map : List ℕ} → Sweep f (t + 1) t t t t tops work red green blue map
-    → Second-asks f t red blue map
+pub second-asks : {f : Frame} {black t : ℕ} {tops work red green blue : List ℤ} {map : List ℕ}
+    → Sweep f black (t + 1) t t t t tops work red green blue map → Second-asks f t red blue map
 second-asks s = record {
   taken = s .buffers .taken;
   red-size = s .red-size;

@@ -52,8 +52,8 @@ buffers-then : {f : Frame} {tops tops' work work' : List ℤ} → Buffers f tops
     → Buffers f tops' work'
 buffers-then b p q = record { taken = b .taken; tops-size = p ∙ b .tops-size; work-size = q ∙ b .work-size }
 
-pub sweep-none : {f : Frame} {tops work red green blue : List ℤ} {map : List ℕ} → Buffers f tops work → Plane-size f red → Plane-size f green
-    → Plane-size f blue → Plane-size f map → Sweep f 0 0 0 0 0 tops work red green blue map
+pub sweep-none : {f : Frame} {black : ℕ} {tops work red green blue : List ℤ} {map : List ℕ} → Buffers f tops work → Plane-size f red
+    → Plane-size f green → Plane-size f blue → Plane-size f map → Sweep f black 0 0 0 0 0 tops work red green blue map
 sweep-none b r g l m = record {
   buffers = b;
   red-size = r;
@@ -73,9 +73,9 @@ sweep-none b r g l m = record {
   decided = held-none (omega arith);
 }
 
-module _ {f : Frame} {t : ℕ} {tops work red green blue : List ℤ} {map : List ℕ} where
-  first-turned : {tops' work' red' blue' : List ℤ} {map' : List ℕ} → Sweep f t t t t t tops work red green blue map
-      → First-turns f t tops tops' work work' red red' blue blue' map map' → Sweep f (t + 1) t t t t tops' work' red' green blue' map'
+module _ {f : Frame} {black t : ℕ} {tops work red green blue : List ℤ} {map : List ℕ} where
+  first-turned : {tops' work' red' blue' : List ℤ} {map' : List ℕ} → Sweep f black t t t t t tops work red green blue map
+      → First-turns f t tops tops' work work' red red' blue blue' map map' → Sweep f black (t + 1) t t t t tops' work' red' green blue' map'
   first-turned s w =
       let k = s .buffers .taken in
       let tops-before : Held top-size 0 (λ r. f .width) 0 (min (t - 4) 2) (in-halves f (norths f)) tops =
@@ -102,15 +102,15 @@ module _ {f : Frame} {t : ℕ} {tops work red green blue : List ℤ} {map : List
         decided = turn-past (w .codes-turn) (plane-fit f k) (row-fit f) (omega arith) (s .decided);
       }
 
-module _ {shape : Shape} {zs : List ℕ} {t : ℕ} {tops work red green blue : List ℤ} {map : List ℕ} where
+module _ {shape : Shape} {zs : List ℕ} {black t : ℕ} {tops work red green blue : List ℤ} {map : List ℕ} where
   pub after-first : {base : ℕ} {rows alongs : List ℕ} {tops' work' red' blue' : List ℤ} {map' : List ℕ} → Round base (t - 24) t
-      → Mosaic-kept (frame shape zs) (t + 1) rows alongs → Sweep (frame shape zs) t t t t t tops work red green blue map
+      → Mosaic-kept (frame shape zs) (t + 1) rows alongs → Sweep (frame shape zs) black t t t t t tops work red green blue map
       → First-turned shape t base rows alongs tops tops' work work' red red' blue blue' map map'
-      → Sweep (frame shape zs) (t + 1) t t t t tops' work' red' green blue' map'
+      → Sweep (frame shape zs) black (t + 1) t t t t tops' work' red' green blue' map'
   after-first r m s p = first-turned s (p .turn zs (first-asks r m s))
 
-  pub after-second : {green' : List ℤ} {map' : List ℕ} → Sweep (frame shape zs) (t + 1) t t t t tops work red green blue map
-      → Second-turned shape t red blue green green' map map' → Sweep (frame shape zs) (t + 1) (t + 1) t t t tops work red green' blue map'
+  pub after-second : {green' : List ℤ} {map' : List ℕ} → Sweep (frame shape zs) black (t + 1) t t t t tops work red green blue map
+      → Second-turned shape t red blue green green' map map' → Sweep (frame shape zs) black (t + 1) (t + 1) t t t tops work red green' blue map'
   after-second s p =
       let k = s .buffers .taken in
       let w = p .turn zs (second-asks s) in record {
@@ -132,8 +132,9 @@ module _ {shape : Shape} {zs : List ℕ} {t : ℕ} {tops work red green blue : L
         decided = turn-next (w .map-turn) (row-fit (frame shape zs)) (s .decided);
       }
 
-  pub after-enhance : {base : ℕ} {work' : List ℤ} → Round base (t - 24) t → Sweep (frame shape zs) (t + 1) (t + 1) t t t tops work red green blue map
-      → Enhance-turned shape t base tops green work work' → Sweep (frame shape zs) (t + 1) (t + 1) (t + 1) t t tops work' red green blue map
+  pub after-enhance : {base : ℕ} {work' : List ℤ} → Round base (t - 24) t
+      → Sweep (frame shape zs) black (t + 1) (t + 1) t t t tops work red green blue map
+      → Enhance-turned shape t base tops green work work' → Sweep (frame shape zs) black (t + 1) (t + 1) (t + 1) t t tops work' red green blue map
   after-enhance r s p =
       let k = s .buffers .taken in
       let w = p .turn zs (enhance-asks r s) in record {
@@ -159,8 +160,8 @@ module _ {shape : Shape} {zs : List ℕ} {t : ℕ} {tops work red green blue : L
       }
 
   pub after-diagonal : {base : ℕ} {work' : List ℤ} → Round base (t - 24) t
-      → Sweep (frame shape zs) (t + 1) (t + 1) (t + 1) t t tops work red green blue map
-      → Diagonal-turned shape t base tops work work' → Sweep (frame shape zs) (t + 1) (t + 1) (t + 1) (t + 1) t tops work' red green blue map
+      → Sweep (frame shape zs) black (t + 1) (t + 1) (t + 1) t t tops work red green blue map
+      → Diagonal-turned shape t base tops work work' → Sweep (frame shape zs) black (t + 1) (t + 1) (t + 1) (t + 1) t tops work' red green blue map
   after-diagonal r s p =
       let k = s .buffers .taken in
       let w = p .turn zs (diagonal-asks r s) in record {
@@ -185,10 +186,10 @@ module _ {shape : Shape} {zs : List ℕ} {t : ℕ} {tops work red green blue : L
         decided = s .decided;
       }
 
-module _ {f : Frame} {t : ℕ} {tops work red green blue red' green' blue' : List ℤ} {map : List ℕ} where
-  pub after-out : Sweep f (t + 1) (t + 1) (t + 1) (t + 1) t tops work red green blue map → Out-turn f t Colour.red red red'
-      → Out-turn f t Colour.green green green' → Out-turn f t Colour.blue blue blue'
-      → Sweep f (t + 1) (t + 1) (t + 1) (t + 1) (t + 1) tops work red' green' blue' map
+module _ {f : Frame} {black t : ℕ} {tops work red green blue red' green' blue' : List ℤ} {map : List ℕ} where
+  pub after-out : Sweep f black (t + 1) (t + 1) (t + 1) (t + 1) t tops work red green blue map → Out-turn f black t Colour.red red red'
+      → Out-turn f black t Colour.green green green' → Out-turn f black t Colour.blue blue blue'
+      → Sweep f black (t + 1) (t + 1) (t + 1) (t + 1) (t + 1) tops work red' green' blue' map
   after-out s r g b =
       let k = s .buffers .taken in record {
         buffers = s .buffers;
@@ -210,15 +211,16 @@ module _ {f : Frame} {t : ℕ} {tops work red green blue red' green' blue' : Lis
       }
 
 -- all turns
-pub step-made : {shape : Shape} {zs : List ℕ} {t base : ℕ} {rows alongs : List ℕ}
+pub step-made : {shape : Shape} {zs : List ℕ} {black t base : ℕ} {rows alongs : List ℕ}
     {tops work red green blue tops' work₁ red₁ blue₁ green₁ work₂ work₃ red' green' blue' : List ℤ} {map map₁ map' : List ℕ} → Round base (t - 24) t
-    → Mosaic-kept (frame shape zs) (t + 1) rows alongs → Sweep (frame shape zs) t t t t t tops work red green blue map
+    → Mosaic-kept (frame shape zs) (t + 1) rows alongs → Sweep (frame shape zs) black t t t t t tops work red green blue map
     → First-turned shape t base rows alongs tops tops' work work₁ red red₁ blue blue₁ map map₁
     → Second-turned shape t red₁ blue₁ green green₁ map₁ map'
     → Enhance-turned shape t base tops' green₁ work₁ work₂ → Diagonal-turned shape t base tops' work₂ work₃
-    → Out-turned shape t base Colour.red rows tops' work₃ red₁ red' → Out-turned shape t base Colour.green rows tops' work₃ green₁ green'
-    → Out-turned shape t base Colour.blue rows tops' work₃ blue₁ blue'
-    → Sweep (frame shape zs) (t + 1) (t + 1) (t + 1) (t + 1) (t + 1) tops' work₃ red' green' blue' map'
+    → Out-turned shape black t base Colour.red rows tops' work₃ red₁ red'
+    → Out-turned shape black t base Colour.green rows tops' work₃ green₁ green'
+    → Out-turned shape black t base Colour.blue rows tops' work₃ blue₁ blue'
+    → Sweep (frame shape zs) black (t + 1) (t + 1) (t + 1) (t + 1) (t + 1) tops' work₃ red' green' blue' map'
 step-made {zs = zs} o m s a b c d r g l =
     let last = after-diagonal o (after-enhance o (after-second (after-first o m s a) b) c) d in
     let asks = out-asks o m last in

@@ -1,7 +1,7 @@
 // The sweep over the rows: a step is a turn of each stage.
 use frame::Shape;
 ghost use mathlib.Core.Path.{_≡_};
-ghost use Prim.Native.Nat.{_+_, _*_, _-_};
+ghost use Prim.Native.Nat.{_+_, _*_, _-_, _≤_};
 ghost use lib.ListN.{length};
 ghost use Rattle.frame.specs.Sites.{Colour, frame};
 ghost use Rattle.method.specs.Green.{decision-map};
@@ -16,6 +16,7 @@ ghost use Rattle.sweep.specs.Invariant.{Sweep};
 fn step(
     mosaic: &[u16],
     shape: Shape,
+    black: usize,
     t: usize,
     base: usize,
     rows: &mut [u16; 98688],
@@ -39,11 +40,12 @@ fn step(
     blue: &mut [i32],
     map: &mut [u8],
 )
-    requires { ⌜ Sweep (frame shape (now mosaic)) t t t t t (now tops) (now work) (now red) (now green) (now blue) (now map) ⌝ }
+    requires { ⌜ Sweep (frame shape (now mosaic)) black t t t t t (now tops) (now work) (now red) (now green) (now blue) (now map) ⌝ }
     requires { ⌜ (Mosaic-kept (frame shape (now mosaic)) t (now rows) (now alongs)) × (Row-arrays (now v) (now gradients))
-        × (Half-arrays (now n) (now a) (now b) (now d) (now e) (now f) (now g) (now l) (now m)) × (length (now codes) ≡ 2048) × (Round base (t - 24) t) ⌝ }
-    ensures { λ _. ⌜ Sweep (frame shape (now (mosaic .entry))) (t + 1) (t + 1) (t + 1) (t + 1) (t + 1) (now (tops .exit)) (now (work .exit))
-        (now (red .exit)) (now (green .exit)) (now (blue .exit)) (now (map .exit)) ⌝ }
+        × (Half-arrays (now n) (now a) (now b) (now d) (now e) (now f) (now g) (now l) (now m)) × (length (now codes) ≡ 2048)
+        × (Round base (t - 24) t) × (black ≤ 255) ⌝ }
+    ensures { λ _. ⌜ Sweep (frame shape (now (mosaic .entry))) black (t + 1) (t + 1) (t + 1) (t + 1) (t + 1) (now (tops .exit))
+        (now (work .exit)) (now (red .exit)) (now (green .exit)) (now (blue .exit)) (now (map .exit)) ⌝ }
     ensures { λ _. ⌜ (Mosaic-kept (frame shape (now (mosaic .entry))) (t + 1) (now (rows .exit)) (now (alongs .exit)))
         × (Row-arrays (now (v .exit)) (now (gradients .exit)))
         × (Half-arrays (now (n .exit)) (now (a .exit)) (now (b .exit)) (now (d .exit))
@@ -74,6 +76,7 @@ fn step(
         rows,
         tops,
         shape,
+        black,
         work,
         t,
         base,
@@ -96,6 +99,7 @@ fn step(
 fn steps(
     mosaic: &[u16],
     shape: Shape,
+    black: usize,
     rows: &mut [u16; 98688],
     alongs: &mut [u16; 98688],
     v: &mut [u16; 4112],
@@ -117,12 +121,13 @@ fn steps(
     blue: &mut [i32],
     map: &mut [u8],
 )
-    requires { ⌜ Sweep (frame shape (now mosaic)) 0 0 0 0 0 (now tops) (now work) (now red) (now green) (now blue) (now map) ⌝ }
+    requires { ⌜ Sweep (frame shape (now mosaic)) black 0 0 0 0 0 (now tops) (now work) (now red) (now green) (now blue) (now map) ⌝ }
     requires { ⌜ (Mosaic-kept (frame shape (now mosaic)) 0 (now rows) (now alongs)) × (Row-arrays (now v) (now gradients))
-        × (Half-arrays (now n) (now a) (now b) (now d) (now e) (now f) (now g) (now l) (now m)) × (length (now codes) ≡ 2048) ⌝ }
-    ensures { λ _. ⌜ (now (red .exit) ≡ plane (frame shape (now (mosaic .entry))) Colour.red)
-        × (now (green .exit) ≡ plane (frame shape (now (mosaic .entry))) Colour.green)
-        × (now (blue .exit) ≡ plane (frame shape (now (mosaic .entry))) Colour.blue)
+        × (Half-arrays (now n) (now a) (now b) (now d) (now e) (now f) (now g) (now l) (now m)) × (length (now codes) ≡ 2048)
+        × (black ≤ 255) ⌝ }
+    ensures { λ _. ⌜ (now (red .exit) ≡ plane (frame shape (now (mosaic .entry))) black Colour.red)
+        × (now (green .exit) ≡ plane (frame shape (now (mosaic .entry))) black Colour.green)
+        × (now (blue .exit) ≡ plane (frame shape (now (mosaic .entry))) black Colour.blue)
         × (now (map .exit) ≡ decision-map (frame shape (now (mosaic .entry)))) ⌝ }
 {
     let h = shape.height;
@@ -132,6 +137,7 @@ fn steps(
         step(
             mosaic,
             shape,
+            black,
             t,
             base,
             rows,
@@ -160,11 +166,12 @@ fn steps(
     }
 }
 
-// The planes and the map of a frame. The local rows are made once; v, gradients, the nine half rows n to m and codes are filled anew by
-// each stage (stage_turns, Scratch).
+// The planes of a frame at a black level, and its map. The local rows are made once; v, gradients, the nine half rows n to m and codes are
+// filled anew by each stage (stage_turns, Scratch).
 pub fn sweep(
     mosaic: &[u16],
     shape: Shape,
+    black: usize,
     red: &mut [i32],
     green: &mut [i32],
     blue: &mut [i32],
@@ -174,10 +181,10 @@ pub fn sweep(
     requires { ⌜ Taken (frame shape (now mosaic)) ⌝ }
     requires { ⌜ (length (now red) ≡ shape .height * shape .width) × (length (now green) ≡ shape .height * shape .width)
         × (length (now blue) ≡ shape .height * shape .width) × (length (now map) ≡ shape .height * shape .width)
-        × (length (now work) ≡ shape .height * (4 * shape .width)) ⌝ }
-    ensures { λ _. ⌜ (now (red .exit) ≡ plane (frame shape (now (mosaic .entry))) Colour.red)
-        × (now (green .exit) ≡ plane (frame shape (now (mosaic .entry))) Colour.green)
-        × (now (blue .exit) ≡ plane (frame shape (now (mosaic .entry))) Colour.blue)
+        × (length (now work) ≡ shape .height * (4 * shape .width)) × (black ≤ 255) ⌝ }
+    ensures { λ _. ⌜ (now (red .exit) ≡ plane (frame shape (now (mosaic .entry))) black Colour.red)
+        × (now (green .exit) ≡ plane (frame shape (now (mosaic .entry))) black Colour.green)
+        × (now (blue .exit) ≡ plane (frame shape (now (mosaic .entry))) black Colour.blue)
         × (now (map .exit) ≡ decision-map (frame shape (now (mosaic .entry)))) ⌝ }
 {
     let mut rows = [0u16; 98688];
@@ -198,6 +205,7 @@ pub fn sweep(
     steps(
         mosaic,
         shape,
+        black,
         &mut rows,
         &mut alongs,
         &mut v,

@@ -14,11 +14,11 @@ use Rattle.frame.specs.declared.Refusal.the-variants.{BufferLength}
 use Rattle.frame.specs.declared.Answer.{Answer}
 use Rattle.frame.specs.declared.Answer.the-variants.{Done, Refused}
 use Rattle.frame.specs.Sites.{frame, highest-sample}
-use Rattle.frame.specs.Calls.{tested, samples-answer}
+use Rattle.frame.specs.Calls.{tested, and-then, samples-answer}
 use Rattle.frame.specs.Admission.{samples-done}
-use Rattle.admission.specs.ShapeTest.{shape-answer, and-then}
+use Rattle.admission.specs.ShapeTest.{shape-answer, count-answer}
 use Rattle.admission.specs.InOrder.{in-order}
-use Rattle.admission.specs.Allowed.{shape-passes, count-most}
+use Rattle.admission.specs.Allowed.{shape-passes, count-passes, count-most}
 use Rattle.frame_file.specs.Lists.{below-from}
 use Rattle.frame_file.specs.FrameFile.{block-count, file-length, written-file, write-answer, file-after-write}
 use Rattle.writer.specs.Ready.{Ready}
@@ -27,11 +27,12 @@ module _ (shape : Shape) (mosaic file : List ℕ) where
   abbrev answer : Answer
   answer = write-answer (frame shape mosaic) (length file)
 
-  -- numbers 1 to 3, then 4, then 5
-  answer-is : answer ≡ and-then (shape-answer shape (length mosaic))
-      (tested (eqb (length file) (file-length (frame shape mosaic))) BufferLength (samples-answer 0 mosaic))
+  -- numbers 1 and 2, then 3, then 4, then 5
+  answer-is : answer ≡ and-then (shape-answer shape)
+      (and-then (count-answer shape (length mosaic))
+      (tested (eqb (length file) (file-length (frame shape mosaic))) BufferLength (and-then (samples-answer mosaic) Done)))
   unfolding write-answer
-  answer-is = in-order shape mosaic (eqb (length file) (file-length (frame shape mosaic)))
+  answer-is = in-order shape mosaic Done (eqb (length file) (file-length (frame shape mosaic))) Done
 
   -- what write returns and leaves
   abbrev pub Wrote : Answer → List ℕ → Type 0
@@ -42,39 +43,41 @@ module _ (shape : Shape) (mosaic file : List ℕ) where
   unfolding file-after-write
   refused-so why e = (sym e, rw e)
 
-  pub shape-refused : (why : Refusal) → shape-answer shape (length mosaic) ≡ Refused why → Wrote (Refused why) file
+  pub shape-refused : (why : Refusal) → shape-answer shape ≡ Refused why → Wrote (Refused why) file
   shape-refused why e = refused-so why (answer-is ∙ rw e)
 
-  module _ (done : shape-answer shape (length mosaic) ≡ Done) where
+  pub count-refused : shape-answer shape ≡ Done → (why : Refusal) → count-answer shape (length mosaic) ≡ Refused why
+      → Wrote (Refused why) file
+  count-refused done why e = refused-so why (answer-is ∙ rw (done, e))
+
+  module _ (done : shape-answer shape ≡ Done) (count : count-answer shape (length mosaic) ≡ Done) where
     file-length-is : file-length (frame shape mosaic) ≡ 512 * block-count (length mosaic)
     unfolding file-length
-    file-length-is = ap (λ (n : ℕ). 512 * block-count n) (sym (shape-passes shape (length mosaic) done .samples))
+    file-length-is = ap (λ (n : ℕ). 512 * block-count n) (sym (count-passes shape (length mosaic) count))
 
     pub size-refused : ¬ (length file ≡ 512 * block-count (length mosaic)) → Wrote (Refused BufferLength) file
     size-refused h =
         refused-so BufferLength
-        (answer-is ∙ rw (done, ne-eqb (length file) (file-length (frame shape mosaic)) (λ q. h (q ∙ file-length-is))))
+        (answer-is ∙ rw (done, count, ne-eqb (length file) (file-length (frame shape mosaic)) (λ q. h (q ∙ file-length-is))))
 
     module _ (size : length file ≡ 512 * block-count (length mosaic)) where
       right-size : eqb (length file) (file-length (frame shape mosaic)) ≡ true
       right-size = eqb-yes (size ∙ sym file-length-is)
 
-      pub samples-refused : (why : Refusal) → samples-answer 0 mosaic ≡ Refused why → Wrote (Refused why) file
-      samples-refused why e = refused-so why (answer-is ∙ rw (done, right-size) e)
+      pub samples-refused : (why : Refusal) → samples-answer mosaic ≡ Refused why → Wrote (Refused why) file
+      samples-refused why e = refused-so why (answer-is ∙ rw (done, count, right-size, e))
 
-      module _ (small : samples-answer 0 mosaic ≡ Done) where
+      module _ (small : samples-answer mosaic ≡ Done) where
         pub ready : Ready shape mosaic (length file)
         unfolding highest-sample
-        ready =
-            let a = shape-passes shape (length mosaic) done in
-            record {
-              phase-small = a .phase;
-              count = a .samples;
-              most = count-most shape (length mosaic) a;
-              samples-small = below-from 1024 mosaic (omega arith) (λ k h. omega (arith, samples-done 0 mosaic small k h));
-              size = size;
-            }
+        ready = record {
+          phase-small = shape-passes shape done .phase;
+          count = count-passes shape (length mosaic) count;
+          most = count-most shape (length mosaic) done count;
+          samples-small = below-from 1024 mosaic (omega arith) (λ k h. omega (arith, samples-done mosaic small k h));
+          size = size;
+        }
 
         pub all-written : (last : List ℕ) → last ≡ written-file (frame shape mosaic) → Wrote Done last
         unfolding file-after-write
-        all-written last e = let d : answer ≡ Done = answer-is ∙ rw (done, right-size) small in (sym d, rw d e)
+        all-written last e = let d : answer ≡ Done = answer-is ∙ rw (done, count, right-size, small) in (sym d, rw d e)

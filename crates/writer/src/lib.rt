@@ -120,7 +120,13 @@ pub fn write(shape: Shape, mosaic: &[u16], file: &mut [u8]) -> Answer
     ensures answer { λ r. ⌜ r ≡ write-answer (frame-of shape (now (mosaic .entry))) (length (now (file .entry))) ⌝ }
     ensures left { λ _. ⌜ now (file .exit) ≡ file-after-write (frame-of shape (now (mosaic .entry))) (now (file .entry)) ⌝ }
 {
-    match admission::test_shape(shape, mosaic.len()) {
+    match admission::test_shape(shape) {
+        Answer::Refused(why) => {
+            return Answer::Refused(why);
+        }
+        Answer::Done => {}
+    }
+    match admission::test_count(shape, mosaic.len()) {
         Answer::Refused(why) => {
             return Answer::Refused(why);
         }

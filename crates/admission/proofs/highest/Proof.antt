@@ -3,7 +3,7 @@ use mathlib.Core.Path.{_≡_}
 use mathlib.Core.Logic.{⊎-elim}
 use Prim.Native.Nat.{_-_, max}
 use lib.ListN.{length, drop}
-use Rattle.admission.specs.Highest.{highest-of, highest-drop, highest-end}
+use Rattle.admission.specs.Extremes.{highest-of, highest-drop, highest-end}
 use native.Mathlib.Omega.{arith}
 use borrow.Author.Needs.{needs}
 use Rattle.admission.proofs.highest.Statement.{statement}

@@ -17,7 +17,7 @@ enum-told c = search needs
 run-requires : tie.Need-run-requires
 run-requires c κs =
     let told = c .before .before .before .before .before in
-    done-ready _ _ (sym (told .before .before .judge .ensures) ∙ told .enum-told .given .1)
+    done-ready _ _ _ (sym (told .before .before .judge .ensures) ∙ told .enum-told .given .1)
 
 returns : tie.Need-returns
 returns c = (sym (c .before .why .given .1) ∙ c .before .before .before .judge .ensures, (refl, (refl, (refl, (refl, refl)))))

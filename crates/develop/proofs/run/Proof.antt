@@ -23,7 +23,7 @@ part-sweep-end c = search needs
 sweep-requires : tie.Need-sweep-requires
 sweep-requires c κs =
     let ready = c .before .before .before .before .before .before .before .before .before .pre in
-    (ready .taken, (search needs, search needs, search needs, search needs, simp (length-take, length-drop) (omega (arith, ready .work-size))))
+    (ready .taken, (search needs, search needs, search needs, search needs, simp (length-take, length-drop) (omega (arith, ready .work-size)), ready .black-low))
 
 same-length : tie.Need-same-length
 same-length c = search needs

@@ -2,8 +2,11 @@
 use borrow.Author.Needs.{needs}
 use mathlib.Core.Path.{refl, _∙_, ap}
 use Prim.Native.Nat.{ℕ, _+_, _-_, _<_, _≤_}
-use lib.IntN.{pos, natAbs, _+ℤ_, _-ℤ_, _*ℤ_}
+use lib.IntN.{ℤ, pos, natAbs, _+ℤ_, _-ℤ_, _*ℤ_}
 use lib.ListN.{getD}
+use mir.Syntax.{w32}
+use mir.Val.{toZ, ofZ}
+use mir.Facts.{toZ-ofZ}
 use native.Mathlib.Omega.{arith}
 use Rattle.toolkit.specs.Bounds.{fits, val}
 use Rattle.toolkit.specs.BoundRules.{small, vals}
@@ -14,13 +17,13 @@ use Rattle.out_rows.proofs.chroma_sites.Statement.{statement}
 use Rattle.out_rows.proofs.chroma_sites.Tie as tie
 
 abbrev Inv-loop : tie.InvT-loop
-Inv-loop own other z g₀ y₀ count k₀ g y k =
+Inv-loop own other z black g₀ y₀ count k₀ g y k =
     (4 ≤ k) × (k ≤ count + 4)
-    × Entries (pos 0) 2064 4 k (λ (x : ℕ). final-round (getD own x (pos 0) +ℤ pos 4 *ℤ getD z x (pos 0))) g
-    × Entries (pos 0) 2064 4 k (λ (x : ℕ). final-round (getD own x (pos 0) +ℤ pos 4 *ℤ getD z x (pos 0) -ℤ getD other x (pos 0))) y
+    × Entries (pos 0) 2064 4 k (λ (x : ℕ). final-round (getD own x (pos 0) +ℤ pos 4 *ℤ getD z x (pos 0)) -ℤ toZ w32 black) g
+    × Entries (pos 0) 2064 4 k (λ (x : ℕ). final-round (getD own x (pos 0) +ℤ pos 4 *ℤ getD z x (pos 0) -ℤ getD other x (pos 0)) -ℤ toZ w32 black) y
 
 abbrev μ-loop : tie.MeasureT-loop
-μ-loop own other z g₀ y₀ count k₀ g y k = count + 4 - k
+μ-loop own other z black g₀ y₀ count k₀ g y k = count + 4 - k
 
 loop-holds : tie.Need-loop-holds Inv-loop μ-loop
 loop-holds c = (omega arith, omega arith, entries-none (c .pre .0 .1), entries-none (c .pre .0 .2))
@@ -72,10 +75,11 @@ output-requires c κs =
     let test = c .before .before .before in
     let hz = z-small (test .before) (test .loop-test .taken) in
     let hd = own-small (test .before) (test .loop-test .taken) in
-    small (search vals depth 30) tt
+    let hb = test .before .before .pre .0 .3 in
+    (small (search vals depth 30) tt, small (search vals depth 30) tt)
 
-mul-t15 : tie.Need-mul-t15 Inv-loop μ-loop
-mul-t15 c = search needs
+mul-t16 : tie.Need-mul-t16 Inv-loop μ-loop
+mul-t16 c = search needs
 
 element-set-from-g : tie.Need-element-set-from-g Inv-loop μ-loop
 element-set-from-g c = search needs
@@ -94,10 +98,11 @@ output-requires-2 c κs =
     let hz = z-small (test .before) (test .loop-test .taken) in
     let hd = own-small (test .before) (test .loop-test .taken) in
     let ho = other-small (test .before) (test .loop-test .taken) in
-    small (search vals depth 30) tt
+    let hb = test .before .before .pre .0 .3 in
+    (small (search vals depth 30) tt, small (search vals depth 30) tt)
 
-mul-t15-2 : tie.Need-mul-t15-2 Inv-loop μ-loop
-mul-t15-2 c = search needs
+mul-t16-2 : tie.Need-mul-t16-2 Inv-loop μ-loop
+mul-t16-2 c = search needs
 
 element-set-from-y : tie.Need-element-set-from-y Inv-loop μ-loop
 element-set-from-y c = search needs
@@ -112,6 +117,7 @@ loop-again : tie.Need-loop-again Inv-loop μ-loop
 loop-again c =
     let at-loop = c .before .before .before .before .before .before in
     let inv = at-loop .loop .inv in
+    let level = toZ w32 (ofZ w32 (at-loop .before .args .black)) in
     let inside = c .before .before .before .before .before .loop-test .taken in
     let hz = z-small at-loop inside in
     let hd = own-small at-loop inside in
@@ -119,15 +125,16 @@ loop-again c =
       omega arith,
       omega arith,
       entries-next (inv .2) (omega arith) refl
-          (as-read (c .before .output .ok) ∙ (c .before .output .ensures ∙ ap final-round (val (search vals depth 30) tt))),
+          (as-read (c .before .output .ok) ∙ (c .before .output .ensures ∙ ap (λ (q : ℤ). final-round q -ℤ level) (val (search vals depth 30) tt))),
       entries-next (inv .3) (omega arith) refl
-          (as-read (c .output2 .ok) ∙ (c .output2 .ensures ∙ ap final-round (val (search vals depth 30) tt))),
+          (as-read (c .output2 .ok) ∙ (c .output2 .ensures ∙ ap (λ (q : ℤ). final-round q -ℤ level) (val (search vals depth 30) tt))),
     )
 
 returns : tie.Need-returns Inv-loop μ-loop
 returns c =
     let inv = c .before .loop .inv in
-    (entries-as (inv .2) (omega arith) (omega arith) (λ x l h. refl), entries-as (inv .3) (omega arith) (omega arith) (λ x l h. refl))
+    let told = toZ-ofZ (c .before .before .fits .black) in
+    (entries-as (inv .2) (omega arith) (omega arith) (λ x l h. rw told), entries-as (inv .3) (omega arith) (omega arith) (λ x l h. rw told))
 
 pub chroma-sites-spec : {M : Type 1} → statement M
 chroma-sites-spec =
@@ -146,11 +153,11 @@ chroma-sites-spec =
     mul-o
     element-copy-out-o
     output-requires
-    mul-t15
+    mul-t16
     element-set-from-g
     sub-output
     output-requires-2
-    mul-t15-2
+    mul-t16-2
     element-set-from-y
     add-k
     loop-less

@@ -4,6 +4,9 @@ use mathlib.Core.Path.{refl, _∙_, ap}
 use Prim.Native.Nat.{ℕ, _+_, _-_, _<_, _≤_}
 use lib.IntN.{ℤ, pos, natAbs, _-ℤ_, _*ℤ_}
 use lib.ListN.{getD}
+use mir.Syntax.{w32}
+use mir.Val.{toZ, ofZ}
+use mir.Facts.{toZ-ofZ}
 use native.Mathlib.Omega.{arith}
 use Rattle.toolkit.specs.Bounds.{fits, val}
 use Rattle.toolkit.specs.BoundRules.{small, vals}
@@ -14,12 +17,13 @@ use Rattle.out_rows.proofs.green_sites.Statement.{statement}
 use Rattle.out_rows.proofs.green_sites.Tie as tie
 
 abbrev Inv-loop : tie.InvT-loop
-Inv-loop z m₀ count k₀ m k =
-    (4 ≤ k) × (k ≤ count + 4) × Entries (pos 0) 2064 4 k (λ (x : ℕ). final-round (pos 4 *ℤ getD z x (pos 0) -ℤ getD m₀ x (pos 0))) m
+Inv-loop z black m₀ count k₀ m k =
+    (4 ≤ k) × (k ≤ count + 4)
+    × Entries (pos 0) 2064 4 k (λ (x : ℕ). final-round (pos 4 *ℤ getD z x (pos 0) -ℤ getD m₀ x (pos 0)) -ℤ toZ w32 black) m
     × Entries (pos 0) 2064 k (count + 4) (λ (x : ℕ). getD m₀ x (pos 0)) m
 
 abbrev μ-loop : tie.MeasureT-loop
-μ-loop z m₀ count k₀ m k = count + 4 - k
+μ-loop z black m₀ count k₀ m k = count + 4 - k
 
 loop-holds : tie.Need-loop-holds Inv-loop μ-loop
 loop-holds c = (omega arith, omega arith, entries-none (c .pre .1), record { size = c .pre .1; at = λ x l h. refl })
@@ -64,10 +68,11 @@ output-requires c κs =
     let inside = c .before .before .loop-test .taken in
     let hz = z-small at-loop inside in
     let hm = m-small at-loop inside in
-    small (search vals depth 30) tt
+    let hb = at-loop .before .pre .4 in
+    (small (search vals depth 30) tt, small (search vals depth 30) tt)
 
-mul-t17 : tie.Need-mul-t17 Inv-loop μ-loop
-mul-t17 c = search needs
+mul-t18 : tie.Need-mul-t18 Inv-loop μ-loop
+mul-t18 c = search needs
 
 element-set-from-m : tie.Need-element-set-from-m Inv-loop μ-loop
 element-set-from-m c = search needs
@@ -84,19 +89,20 @@ loop-again c =
     let a = at-loop .before .args in
     let inv = at-loop .loop .inv in
     let k = at-loop .loop .k in
+    let level = toZ w32 (ofZ w32 (a .black)) in
     let inside = c .before .before .before .loop-test .taken in
     let hz = z-small at-loop inside in
     let hm = m-small at-loop inside in (
       omega arith,
       omega arith,
       entries-next (inv .2) (omega arith) refl
-          (as-read (c .output .ok) ∙ (c .output .ensures ∙ (ap final-round (val (search vals depth 30) tt)
-          ∙ ap (λ (x : ℤ). final-round (pos 4 *ℤ getD (a .z .now) k (pos 0) -ℤ x)) (inv .3 .at k (omega arith) inside)))),
+          (as-read (c .output .ok) ∙ (c .output .ensures ∙ (ap (λ (q : ℤ). final-round q -ℤ level) (val (search vals depth 30) tt)
+          ∙ ap (λ (x : ℤ). final-round (pos 4 *ℤ getD (a .z .now) k (pos 0) -ℤ x) -ℤ level) (inv .3 .at k (omega arith) inside)))),
       entries-past _ (inv .3) (omega arith) (omega arith),
     )
 
 returns : tie.Need-returns Inv-loop μ-loop
-returns c = entries-as (c .before .loop .inv .2) (omega arith) (omega arith) (λ x l h. refl)
+returns c = entries-as (c .before .loop .inv .2) (omega arith) (omega arith) (λ x l h. rw (toZ-ofZ (c .before .before .fits .black)))
 
 pub green-sites-spec : {M : Type 1} → statement M
 green-sites-spec =
@@ -113,7 +119,7 @@ green-sites-spec =
     element-copy-out-output-2
     sub-output
     output-requires
-    mul-t17
+    mul-t18
     element-set-from-m
     add-k
     loop-less

@@ -1,5 +1,8 @@
 -- `out_stage::row_outputs` meets its contract. Assumes nothing.
+use mathlib.Core.Path.{_∙_}
+use mir.Facts.{toZ-ofZ}
 use native.Mathlib.Omega.{arith}
+use Rattle.toolkit.specs.BoundRules.{small, vals}
 use Rattle.frame.specs.Sites.{frame}
 use Rattle.out_stage.specs.DirectReads.{start-small, count-few, rest-few, count-chroma, rest-green}
 use Rattle.out_stage.specs.RowOutputs.{Row-bounded, row-bounded, outputs-are}
@@ -18,6 +21,9 @@ chroma-of c = c .before .before .before
 
 abbrev second-of : tie.After-chroma-sites → tie.After-samples2
 second-of c = c .before .before .before .before
+
+abbrev green-of : tie.After-green-sites2 → tie.After-green-sites
+green-of c = c .before .before .before
 
 samples-requires : tie.Need-samples-requires
 samples-requires c κs =
@@ -65,13 +71,15 @@ chroma-sites-requires c κs =
     let second = c .before .before .before in
     let start = start-of second in
     let a = start .args in
-    let small = bounded second in (
+    let level = start .pre .1 .0 .2 in
+    let size = bounded second in (
       (
         count-few (a .shape) (start .pre .0 .samples) (a .i) (a .p) (start .pre .1 .0 .0) (start .pre .0 .holds .taken .narrow),
         start .pre .1 .1 .2,
         start .pre .1 .1 .3,
+        small (search vals depth 10) tt,
       ),
-      (small .own-small, small .other-small, small .zx-small),
+      (size .own-small, size .other-small, size .zx-small),
     )
 
 green-sites-requires : tie.Need-green-sites-requires
@@ -79,11 +87,13 @@ green-sites-requires c κs =
     let second = second-of (c .before .before) in
     let start = start-of second in
     let a = start .args in
-    let small = bounded second in (
+    let level = start .pre .1 .0 .2 in
+    let size = bounded second in (
       rest-few (a .shape) (start .pre .0 .samples) (a .i) (a .p) (start .pre .1 .0 .0) (start .pre .0 .holds .taken .narrow),
       start .pre .0 .holds .differences .green-own .size,
-      small .zg-small,
-      small .x-small,
+      size .zg-small,
+      size .x-small,
+      small (search vals depth 10) tt,
     )
 
 green-sites-requires-2 : tie.Need-green-sites-requires-2
@@ -91,26 +101,55 @@ green-sites-requires-2 c κs =
     let second = second-of (chroma-of (c .before .before)) in
     let start = start-of second in
     let a = start .args in
-    let small = bounded second in (
+    let level = start .pre .1 .0 .2 in
+    let size = bounded second in (
       rest-few (a .shape) (start .pre .0 .samples) (a .i) (a .p) (start .pre .1 .0 .0) (start .pre .0 .holds .taken .narrow),
       start .pre .0 .holds .differences .green-other .size,
-      small .zg-small,
-      small .y-small,
+      size .zg-small,
+      size .y-small,
+      small (search vals depth 10) tt,
+    )
+
+measured-requires : tie.Need-measured-requires
+measured-requires c κs =
+    let second = second-of (chroma-of (green-of (c .before))) in
+    let start = start-of second in
+    let a = start .args in
+    let level = start .pre .1 .0 .2 in (
+      count-few (a .shape) (start .pre .0 .samples) (a .i) (a .p) (start .pre .1 .0 .0) (start .pre .0 .holds .taken .narrow),
+      first-of second .samples .ensures .size,
+      bounded second .zx-small,
+      small (search vals depth 10) tt,
+    )
+
+measured-requires-2 : tie.Need-measured-requires-2
+measured-requires-2 c κs =
+    let second = second-of (chroma-of (green-of (c .before .before .before))) in
+    let start = start-of second in
+    let a = start .args in
+    let level = start .pre .1 .0 .2 in (
+      rest-few (a .shape) (start .pre .0 .samples) (a .i) (a .p) (start .pre .1 .0 .0) (start .pre .0 .holds .taken .narrow),
+      second .samples2 .ensures .size,
+      bounded second .zg-small,
+      small (search vals depth 10) tt,
     )
 
 returns : tie.Need-returns
 returns c =
-    let green = c .before .before .before in
+    let own = c .before .before in
+    let last = own .before .before in
+    let green = green-of last in
     let chroma = chroma-of green in
     let second = second-of chroma in
     let start = start-of second in
     let a = start .args in
     let placed = start .pre .1 .0 .0 in
     record {
-      row = λ zs reads. outputs-are (frame (a .shape) zs) (a .i) (a .at) (a .p .start) (a .p .count) (a .p .rest) (placed .start-is)
+      row = λ b zs is reads. outputs-are (frame (a .shape) zs) (a .i) (a .at) (a .p .start) (a .p .count) (a .p .rest) (placed .start-is)
           (count-chroma (a .shape) zs (a .i) (a .p) placed) (rest-green (a .shape) zs (a .i) (a .p) placed) _ _ _ _ _ _ _ reads
-          (first-of second .samples .ensures) (second .samples2 .ensures) _ _ _ _ (chroma .chroma-sites .ensures .0)
-          (chroma .chroma-sites .ensures .1) (green .green-sites .ensures) (c .green-sites2 .ensures);
+          (first-of second .samples .ensures) (second .samples2 .ensures) b (toZ-ofZ (start .fits .black) ∙ is) _ _ _ _ _ _
+          (chroma .chroma-sites .ensures .0) (chroma .chroma-sites .ensures .1) (green .green-sites .ensures) (last .green-sites2 .ensures)
+          (own .measured .ensures) (c .measured2 .ensures);
     }
 
 pub row-outputs-spec : {M : Type 1} → statement M
@@ -123,4 +162,6 @@ row-outputs-spec =
     chroma-sites-requires
     green-sites-requires
     green-sites-requires-2
+    measured-requires
+    measured-requires-2
     returns)

@@ -108,7 +108,7 @@ out-turn-requires c κs =
     let sums = second .second-turn .ensures .1 in (
       record { samples = _; holds = out-asks (start .1 .4) mosaic last },
       (
-        (last .red-size, last .green-size, last .blue-size),
+        (last .red-size, last .green-size, last .blue-size, start .1 .5),
         record {
           n-size = sizes .0;
           a-size = sizes .1;

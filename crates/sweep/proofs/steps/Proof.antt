@@ -14,14 +14,14 @@ use Rattle.sweep.proofs.steps.Statement.{statement}
 use Rattle.sweep.proofs.steps.Tie as tie
 
 abbrev Inv-loop : tie.InvT-loop
-Inv-loop mosaic shape rows₀ alongs₀ v₀ gradients₀ n₀ a₀ b₀ d₀ e₀ f₀ g₀ l₀ m₀ codes₀ tops₀ work₀ red₀ green₀ blue₀ map₀ h t₀ base₀
+Inv-loop mosaic shape black rows₀ alongs₀ v₀ gradients₀ n₀ a₀ b₀ d₀ e₀ f₀ g₀ l₀ m₀ codes₀ tops₀ work₀ red₀ green₀ blue₀ map₀ h t₀ base₀
     rows alongs v gradients n a b d e f g l m codes tops work red green blue map t base =
-    (t ≤ h + 20) × Sweep (frame shape mosaic) t t t t t tops work red green blue map × Mosaic-kept (frame shape mosaic) t rows alongs
+    (t ≤ h + 20) × Sweep (frame shape mosaic) black t t t t t tops work red green blue map × Mosaic-kept (frame shape mosaic) t rows alongs
     × Row-arrays v gradients × Half-arrays n a b d e f g l m × (length codes ≡ 2048)
     × Round base (t - 24) t
 
 abbrev μ-loop : tie.MeasureT-loop
-μ-loop mosaic shape rows₀ alongs₀ v₀ gradients₀ n₀ a₀ b₀ d₀ e₀ f₀ g₀ l₀ m₀ codes₀ tops₀ work₀ red₀ green₀ blue₀ map₀ h t₀ base₀
+μ-loop mosaic shape black rows₀ alongs₀ v₀ gradients₀ n₀ a₀ b₀ d₀ e₀ f₀ g₀ l₀ m₀ codes₀ tops₀ work₀ red₀ green₀ blue₀ map₀ h t₀ base₀
     rows alongs v gradients n a b d e f g l m codes tops work red green blue map t base =
     h + 20 - t
 
@@ -45,7 +45,7 @@ add-loop c = omega (arith, start-of c .pre .0 .buffers .taken .low)
 step-requires : tie.Need-step-requires Inv-loop μ-loop
 step-requires c κs =
     let inv = in-loop-of c .before .loop .inv in
-    (inv .1, (inv .2, inv .3, inv .4, inv .5, inv .6))
+    (inv .1, (inv .2, inv .3, inv .4, inv .5, inv .6, start-of (in-loop-of c .before) .pre .1 .4))
 
 next-base-requires : tie.Need-next-base-requires Inv-loop μ-loop
 next-base-requires c κs =
@@ -85,7 +85,7 @@ same-length-6 : tie.Need-same-length-6 Inv-loop μ-loop
 same-length-6 c = c .before .loop .inv .1 .map-size ∙ sym (start-of (c .before) .pre .0 .map-size)
 
 returns : tie.Need-returns Inv-loop μ-loop
-returns c = sweep-all _ (c .before .loop .t) _ _ _ _ _ _ (omega (arith, c .loop-test .left, c .before .loop .inv .0)) (c .before .loop .inv .1)
+returns c = sweep-all _ _ (c .before .loop .t) _ _ _ _ _ _ (omega (arith, c .loop-test .left, c .before .loop .inv .0)) (c .before .loop .inv .1)
 
 pub steps-spec : {M : Type 1} → statement M
 steps-spec =

@@ -21,6 +21,7 @@ steps-requires c κs =
         record { v-size = refl; gradients-size = refl },
         record { n-size = refl; a-size = refl; b-size = refl; d-size = refl; e-size = refl; f-size = refl; g-size = refl; l-size = refl; m-size = refl },
         refl,
+        start .1 .5,
       ),
     )
 
