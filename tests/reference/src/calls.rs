@@ -1,4 +1,5 @@
-//! Document 01, "Calls and returns": develop and clamp, with every refusal; develop fills the map of document 02, A1, too.
+//! Document 01, "Calls and returns": develop and clamp, with every refusal. From document 02 develop has the map of A1, and the black
+//! level of A2 with its two refusals.
 
 use crate::planes::planes;
 use crate::sites::Frame;
@@ -7,6 +8,9 @@ use crate::sites::Frame;
 pub const SIDES: std::ops::RangeInclusive<usize> = 2..=4096;
 pub const GREATEST_PHASE: usize = 3;
 pub const GREATEST_SAMPLE: u16 = 1023;
+pub const GREATEST_BLACK: usize = 255;
+/// How far a sample may lie under the black level.
+pub const GREATEST_UNDER: usize = 64;
 
 /// The number and the place of a refusal.
 #[derive(Clone, Copy, Debug, PartialEq, Eq)]
@@ -28,19 +32,19 @@ pub fn returned<T>(answer: &Result<T, Refusal>) -> (u32, usize) {
     }
 }
 
-/// Refusals 1, 2 and 3 of develop and write.
-pub(crate) fn test_frame(
-    width: usize,
-    height: usize,
-    phase: usize,
-    mosaic: &[u16],
-) -> Result<(), Refusal> {
+/// Refusals 1 and 2 of develop and write.
+pub(crate) fn test_shape(width: usize, height: usize, phase: usize) -> Result<(), Refusal> {
     if !SIDES.contains(&width) || !SIDES.contains(&height) {
         return refused(1, 0);
     }
     if phase > GREATEST_PHASE {
         return refused(2, 0);
     }
+    Ok(())
+}
+
+/// Refusal 3 of develop and write, for sides that are tested.
+pub(crate) fn test_length(width: usize, height: usize, mosaic: &[u16]) -> Result<(), Refusal> {
     if mosaic.len() != width * height {
         return refused(3, 0);
     }
@@ -55,12 +59,22 @@ pub(crate) fn test_samples(mosaic: &[u16]) -> Result<(), Refusal> {
     }
 }
 
-/// Fills the three planes and the decision map from the mosaic. The work buffer is only measured.
+/// Refusal 12 of develop: the first sample more than 64 under the black level.
+fn test_darkness(mosaic: &[u16], black: usize) -> Result<(), Refusal> {
+    let too_dark = |&sample: &u16| usize::from(sample) + GREATEST_UNDER < black;
+    match mosaic.iter().position(too_dark) {
+        Some(place) => refused(12, place),
+        None => Ok(()),
+    }
+}
+
+/// Fills the three planes, at the black level, and the decision map from the mosaic. The work buffer is only measured.
 #[allow(clippy::too_many_arguments)] // the document lends all of these
 pub fn develop(
     width: usize,
     height: usize,
     phase: usize,
+    black: usize,
     mosaic: &[u16],
     red: &mut [i32],
     green: &mut [i32],
@@ -68,7 +82,11 @@ pub fn develop(
     map: &mut [u8],
     work: &mut [i32],
 ) -> Result<(), Refusal> {
-    test_frame(width, height, phase, mosaic)?;
+    test_shape(width, height, phase)?;
+    if black > GREATEST_BLACK {
+        return refused(11, 0);
+    }
+    test_length(width, height, mosaic)?;
     let count = width * height;
     if red.len() != count || green.len() != count || blue.len() != count {
         return refused(4, 0);
@@ -77,12 +95,14 @@ pub fn develop(
         return refused(4, 0);
     }
     test_samples(mosaic)?;
-    let developed = planes(&Frame {
+    test_darkness(mosaic, black)?;
+    let frame = Frame {
         width,
         height,
         phase,
         samples: mosaic.to_vec(),
-    });
+    };
+    let developed = planes(&frame, black as i64);
     for site in 0..count {
         red[site] = developed.red[site] as i32;
         green[site] = developed.green[site] as i32;

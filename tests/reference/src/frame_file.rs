@@ -1,6 +1,8 @@
 //! Document 01, "The frame file": packing, blocks, read and write.
 
-use crate::calls::{refused, test_frame, test_samples, Refusal, GREATEST_PHASE, SIDES};
+use crate::calls::{
+    refused, test_length, test_samples, test_shape, Refusal, GREATEST_PHASE, SIDES,
+};
 
 /// Bytes of a block.
 pub const BLOCK: usize = 512;
@@ -143,7 +145,8 @@ pub fn write(
     mosaic: &[u16],
     file: &mut [u8],
 ) -> Result<(), Refusal> {
-    test_frame(width, height, phase, mosaic)?;
+    test_shape(width, height, phase)?;
+    test_length(width, height, mosaic)?;
     if file.len() != block_count(width, height) * BLOCK {
         return refused(4, 0);
     }

@@ -1,4 +1,4 @@
-//! Document 01, the integrated-gradient Bayer module, with A1 of document 02, as plain Rust.
+//! Document 01, the integrated-gradient Bayer module, with A1 and A2 of document 02, as plain Rust.
 //!
 //! Each module follows one section of the document and quotes its letters.
 //! Whole numbers are kept in 64 or 128 bits, so that no step can overflow.

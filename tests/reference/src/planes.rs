@@ -1,4 +1,4 @@
-//! Document 01, "Differences and planes": from the greens to the three planes, and the decision map of document 02, A1.
+//! Document 01, "Differences and planes": from the greens to the three planes; document 02: the decision map of A1, the black level of A2.
 
 use crate::gradients::gradients;
 use crate::green::{green, Decision, Green};
@@ -121,8 +121,9 @@ fn green_minus(wanted: Colour, frame: &Frame, finals: &Differences) -> PerSite<i
     })
 }
 
-/// The three planes and the decision map of a frame.
-pub fn planes(frame: &Frame) -> Planes {
+/// The three planes and the decision map of a frame. The samples are developed as they came, and the black level is taken off each of the
+/// three rounded numbers.
+pub fn planes(frame: &Frame, black: i64) -> Planes {
     let greens = green(frame);
     let finals = enhanced(frame, &greens);
     let minus_red = green_minus(Colour::Red, frame, &finals);
@@ -147,9 +148,9 @@ pub fn planes(frame: &Frame) -> Planes {
                 Colour::Green => green = sample,
                 Colour::Blue => blue = sample,
             }
-            planes.red.push(red);
-            planes.green.push(green);
-            planes.blue.push(blue);
+            planes.red.push(red - black);
+            planes.green.push(green - black);
+            planes.blue.push(blue - black);
             planes.map.push(greens.at(row, column).decision as u8);
         }
     }

@@ -7,6 +7,8 @@ use crate::frame_file::read;
 pub const FILE_ROOM: usize = 2048;
 /// The room for the samples.
 pub const SAMPLE_ROOM: usize = 1024;
+/// Document 02, A2: the programs use b = 0.
+const BLACK: usize = 0;
 
 /// The text that the program prints for the bytes of standard input.
 pub fn text(input: &[u8]) -> String {
@@ -31,6 +33,7 @@ fn colours(input: &[u8]) -> Result<String, Refusal> {
         frame.width,
         frame.height,
         frame.phase,
+        BLACK,
         &samples[..count],
         &mut red,
         &mut green,

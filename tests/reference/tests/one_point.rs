@@ -1,10 +1,12 @@
 //! A second form of the method: point by point on the endlessly reflected mosaic, with
-//! directions as steps and with fractions in place of eighths and quarters.
+//! directions as steps and with fractions in place of eighths and quarters; the black level
+//! comes off a number when it is formed.
 
 mod common;
 
+use common::black::frame_and_level;
 use common::fraction::Fraction;
-use common::{developed, frame, Generator, KINDS};
+use common::{developed_at, Generator, KINDS};
 use reference::sites::{Colour, Frame};
 use std::cell::RefCell;
 use std::collections::HashMap;
@@ -35,6 +37,7 @@ struct Site {
 
 struct Endless<'a> {
     frame: &'a Frame,
+    black: i128,
     sites: RefCell<HashMap<Point, Site>>,
     greens: RefCell<HashMap<Point, Decided>>,
 }
@@ -205,7 +208,7 @@ impl Endless<'_> {
             green - self.minus(Colour::Red, point),
             green - self.minus(Colour::Blue, point),
         );
-        [red, green, blue].map(Fraction::nearest_halves_upward)
+        [red, green, blue].map(|number| number.nearest_halves_upward() - self.black)
     }
 
     /// The code at a point.
@@ -221,13 +224,14 @@ impl Endless<'_> {
 fn develop_agrees_with_the_second_form() {
     let mut generator = Generator::new(40);
     for turn in 0..160 {
-        let frame = frame(&mut generator, KINDS[turn % KINDS.len()], 12);
+        let (frame, black) = frame_and_level(&mut generator, KINDS[turn % KINDS.len()], 12);
         let endless = Endless {
             frame: &frame,
+            black: black as i128,
             sites: RefCell::new(HashMap::new()),
             greens: RefCell::new(HashMap::new()),
         };
-        let planes = developed(&frame);
+        let planes = developed_at(&frame, black);
         for site in 0..frame.samples.len() {
             let point = ((site / frame.width) as i64, (site % frame.width) as i64);
             let found = [planes.red[site], planes.green[site], planes.blue[site]];

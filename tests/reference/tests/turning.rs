@@ -1,9 +1,10 @@
-//! Demand 3: lists of mirrorings, transpositions and trades of red and blue; the codes of the map at matching points.
+//! Demand 3 at every black level: lists of mirrorings, transpositions and trades of red and blue; the codes of the map at matching points.
 
 mod common;
 
+use common::black::{bright_enough, frame_and_level, level};
 use common::demand3::{compare_changed, list};
-use common::{developed, frame, frame_of_sides, Generator, Kind, KINDS};
+use common::{frame, frame_of_sides, try_develop, Generator, Kind, KINDS};
 use reference::gradients::gradients;
 use reference::green::{first_pass, sums, Outcome, D, H, V};
 use reference::sites::{Colour, Frame};
@@ -16,9 +17,9 @@ fn lists_of_changes_keep_the_numbers_and_the_map() {
     let mut generator = Generator::new(10);
     for _ in 0..1_500 {
         for kind in KINDS {
-            let first = frame(&mut generator, kind, 12);
+            let (first, black) = frame_and_level(&mut generator, kind, 12);
             let changes = list(&mut generator);
-            compare_changed(developed, &first, &changes);
+            compare_changed(try_develop, &first, black, &changes);
         }
     }
 }
@@ -29,9 +30,11 @@ fn every_change_on_every_small_size_and_phase() {
     for (width, height) in (2..=7).flat_map(|width| (2..=7).map(move |height| (width, height))) {
         for phase in 0..4 {
             for change in CHANGES {
-                let mut first = frame_of_sides(&mut generator, Kind::FewValued, width, height);
+                let first = frame_of_sides(&mut generator, Kind::FewValued, width, height);
+                let black = level(&mut generator);
+                let mut first = bright_enough(first, black);
                 first.phase = phase;
-                compare_changed(developed, &first, &[change]);
+                compare_changed(try_develop, &first, black, &[change]);
             }
         }
     }
@@ -43,9 +46,11 @@ fn quarter_turns_of_long_narrow_frames() {
     let turn = [Change::Transpose, Change::MirrorLeftToRight];
     for (width, height) in [(2, 40), (40, 2), (3, 33), (33, 3), (4, 50), (50, 5)] {
         for kind in KINDS {
+            let black = level(&mut generator);
             let first = frame_of_sides(&mut generator, kind, width, height);
-            compare_changed(developed, &first, &turn);
-            compare_changed(developed, &first, &turn.repeat(3));
+            let first = bright_enough(first, black);
+            compare_changed(try_develop, &first, black, &turn);
+            compare_changed(try_develop, &first, black, &turn.repeat(3));
         }
     }
 }
@@ -56,7 +61,7 @@ fn the_frames_hold_ties() {
     let mut generator = Generator::new(10);
     let (mut equal, mut weak, mut tied) = (0, 0, 0);
     for turn in 0..2_000 {
-        let frame = frame(&mut generator, KINDS[turn % KINDS.len()], 12);
+        let (frame, _) = frame_and_level(&mut generator, KINDS[turn % KINDS.len()], 12);
         let sites = first_pass(&frame);
         for row in 0..frame.height as i64 {
             for column in 0..frame.width as i64 {

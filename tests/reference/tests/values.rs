@@ -1,9 +1,11 @@
-//! Demand 3: the added constant, the measured sample and the range; the codes of the map.
+//! Demand 3 at every black level: the added constant, the measured sample and the range; the codes of the map.
 
 mod common;
 
+use common::black::{bright_enough, frame_and_level, level, LEVELS};
 use common::demand3::{compare_measured, compare_raised, constants, decisions, extremes, raised};
-use common::{developed, frame, frame_of_sides, Developed, Generator, Kind, KINDS};
+use common::{developed_at, frame, frame_of_sides, try_develop};
+use common::{Developed, Generator, Kind, KINDS};
 use reference::calls::develop;
 use reference::sites::Frame;
 
@@ -29,10 +31,35 @@ fn added_constants_above_and_below_zero() {
             let constant = generator.between(least, greatest);
             above += usize::from(constant > 0);
             below += usize::from(constant < 0);
-            compare_raised(developed, &start, constant);
+            // at level 0 acceptance follows from the range alone
+            assert_eq!(compare_raised(try_develop, &start, 0, constant), 0);
         }
     }
     assert!(above > 500 && below > 500, "{above} {below}");
+}
+
+/// The constant may leave the range above, and samples too dark for the black level.
+#[test]
+fn added_constants_at_a_black_level() {
+    let mut generator = Generator::new(26);
+    let mut returned = [0; 13];
+    for _ in 0..400 {
+        for kind in KINDS {
+            let by = generator.one_of(&[1, 2, 3, 10, 100]);
+            let black = level(&mut generator);
+            let first = pressed(frame(&mut generator, kind, 12), by);
+            let start = bright_enough(first, black);
+            let (least, greatest) = constants(&start);
+            let any = generator.between(least, greatest);
+            let small = generator.between(least.max(-9), 9);
+            let near_the_top = greatest + generator.between(0, 9);
+            let constant = generator.one_of(&[any, small, near_the_top]);
+            let number = compare_raised(try_develop, &start, black, constant);
+            returned[number as usize] += 1;
+        }
+    }
+    let seen = [returned[0], returned[5], returned[12]];
+    assert!(seen.iter().all(|&count| count > 100), "{seen:?}");
 }
 
 #[test]
@@ -42,18 +69,34 @@ fn added_constants_to_the_ends_of_the_range() {
         let first = pressed(frame(&mut generator, Kind::Random, 9), 2);
         let (least, greatest) = constants(&first);
         for constant in [least, greatest, 1] {
-            compare_raised(developed, &first, constant);
+            assert_eq!(compare_raised(try_develop, &first, 0, constant), 0);
+        }
+    }
+}
+
+/// With the darkest sample 64 under the black level, a constant of −1 leaves it too dark.
+#[test]
+fn added_constants_to_the_darkest_sample_allowed() {
+    let mut generator = Generator::new(27);
+    for black in 65..=255 {
+        let kind = generator.one_of(&KINDS);
+        let mut first = bright_enough(pressed(frame(&mut generator, kind, 9), 2), black);
+        let place = generator.size(0, first.samples.len() - 1);
+        first.samples[place] = (black - 64) as u16;
+        for (constant, number) in [(0, 0), (1, 0), (-1, 12)] {
+            let found = compare_raised(try_develop, &first, black, constant);
+            assert_eq!(found, number, "{constant} added to {first:?} at {black}");
         }
     }
 }
 
 #[test]
-fn the_measured_sample_stands_in_its_own_colour() {
+fn the_measured_sample_stands_in_its_own_colour_less_the_black_level() {
     let mut generator = Generator::new(22);
     for _ in 0..1_000 {
         for kind in KINDS {
-            let frame = frame(&mut generator, kind, 12);
-            compare_measured(developed, &frame);
+            let (frame, black) = frame_and_level(&mut generator, kind, 12);
+            compare_measured(try_develop, &frame, black);
         }
     }
 }
@@ -64,8 +107,8 @@ fn the_map_has_0_at_green_sites_alone_and_every_code_to_6() {
     let mut seen = [0; 7];
     for _ in 0..300 {
         for kind in KINDS {
-            let frame = frame(&mut generator, kind, 12);
-            let counts = decisions(developed, &frame);
+            let (frame, black) = frame_and_level(&mut generator, kind, 12);
+            let counts = decisions(try_develop, &frame, black);
             seen = std::array::from_fn(|code| seen[code] + counts[code]);
         }
     }
@@ -84,7 +127,9 @@ fn all_numbers_lie_in_the_range() {
                 *sample = generator.one_of(&[0, 1023]);
             }
         }
-        let (lowest, highest) = extremes(developed, &frame);
+        let black = level(&mut generator);
+        let frame = bright_enough(frame, black);
+        let (lowest, highest) = extremes(try_develop, &frame, black);
         least = least.min(lowest);
         greatest = greatest.max(highest);
     }
@@ -96,8 +141,9 @@ fn all_numbers_lie_in_the_range() {
 fn no_answer_depends_on_what_the_buffers_held() {
     let mut generator = Generator::new(24);
     for kind in KINDS {
-        let frame = frame_of_sides(&mut generator, kind, 7, 6);
-        let expected = developed(&frame);
+        let black = generator.one_of(&LEVELS);
+        let frame = bright_enough(frame_of_sides(&mut generator, kind, 7, 6), black);
+        let expected = developed_at(&frame, black);
         for more in [0, 1, 500] {
             let mut planes = Developed {
                 red: generator.numbers(42),
@@ -109,6 +155,7 @@ fn no_answer_depends_on_what_the_buffers_held() {
                 7,
                 6,
                 frame.phase,
+                black,
                 &frame.samples,
                 &mut planes.red,
                 &mut planes.green,

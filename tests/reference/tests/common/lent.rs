@@ -1,7 +1,16 @@
 //! What develop is lent.
 
+use super::black::{bright_enough, level, TOO_HIGH};
 use super::{frame_of_sides, Generator, Kind};
 use reference::sites::Frame;
+
+/// The numbers of develop's refusals, in the order in which they are tested.
+pub const ORDER: [u32; 7] = [1, 2, 11, 3, 4, 5, 12];
+
+/// Where a call has its fault: a sample that is too high stands behind one that is too dark.
+pub fn place_of(number: u32) -> usize {
+    usize::from(number == 5)
+}
 
 /// All that is lent to one call of develop.
 #[derive(Clone, Debug, PartialEq)]
@@ -9,6 +18,7 @@ pub struct Lent {
     pub width: usize,
     pub height: usize,
     pub phase: usize,
+    pub black: usize,
     pub mosaic: Vec<u16>,
     pub red: Vec<i32>,
     pub green: Vec<i32>,
@@ -18,13 +28,14 @@ pub struct Lent {
 }
 
 impl Lent {
-    /// A call that is accepted, with numbers of any size in the buffers and `more` entries of work than are needed.
-    pub fn new(generator: &mut Generator, frame: &Frame, more: usize) -> Self {
+    /// A call of a frame at a black level, with numbers of any size in the buffers and `more` entries of work than are needed.
+    pub fn new(generator: &mut Generator, frame: &Frame, black: usize, more: usize) -> Self {
         let count = frame.width * frame.height;
         Lent {
             width: frame.width,
             height: frame.height,
             phase: frame.phase,
+            black,
             mosaic: frame.samples.clone(),
             red: generator.numbers(count),
             green: generator.numbers(count),
@@ -34,15 +45,15 @@ impl Lent {
         }
     }
 
-    /// The same for a small random frame.
+    /// The same for a small random frame and a black level with which it is accepted.
     pub fn small(generator: &mut Generator) -> Self {
         let (width, height) = (generator.size(2, 7), generator.size(2, 7));
         let frame = frame_of_sides(generator, Kind::Random, width, height);
-        let more = generator.size(0, 3);
-        Lent::new(generator, &frame, more)
+        let (black, more) = (level(generator), generator.size(0, 3));
+        Lent::new(generator, &bright_enough(frame, black), black, more)
     }
 
-    /// Puts the fault of one number into the call.
+    /// Puts the fault of one number into the call. Of several faults the one that is tested last comes first.
     pub fn spoil(&mut self, number: u32, generator: &mut Generator) {
         match number {
             1 => self.width = generator.one_of(&[0, 1, 4_097, usize::MAX]),
@@ -56,7 +67,13 @@ impl Lent {
                 4 => self.map.truncate(3),
                 _ => self.work.truncate(3),
             },
-            _ => self.mosaic[0] = 2_000,
+            5 => self.mosaic[place_of(5)] = generator.one_of(&[1_024, 2_000, u16::MAX]),
+            11 => self.black = generator.one_of(&TOO_HIGH),
+            _ => {
+                let sample = generator.size(0, 190);
+                self.mosaic[place_of(12)] = sample as u16;
+                self.black = generator.size(sample + 65, 255);
+            }
         }
     }
 }

@@ -1,11 +1,13 @@
-//! What the tests share: numbers drawn from a seed, frames of six kinds, developed planes and maps.
+//! What the tests share: numbers drawn from a seed, frames of six kinds, black levels, developed planes and maps.
 #![allow(dead_code)] // each test file uses a part
 
+pub mod black;
 pub mod demand3;
 pub mod fraction;
 pub mod lent;
 
-use reference::calls::develop;
+use demand3::Develop;
+use reference::calls::{develop, Refusal};
 use reference::frame_file::{block_count, check, write, BLOCK};
 use reference::sites::{Colour, Frame};
 
@@ -168,6 +170,19 @@ pub struct Developed {
     pub map: Vec<u8>,
 }
 
+impl Developed {
+    /// A number added to all three numbers at every point; the map stays.
+    pub fn plus(self, number: i32) -> Self {
+        let added = |plane: Vec<i32>| plane.into_iter().map(|entry| entry + number).collect();
+        Developed {
+            red: added(self.red),
+            green: added(self.green),
+            blue: added(self.blue),
+            map: self.map,
+        }
+    }
+}
+
 /// Whether a site is green.
 pub fn is_green(frame: &Frame, site: usize) -> bool {
     let (row, column) = (site / frame.width, site % frame.width);
@@ -186,8 +201,8 @@ pub fn grey(frame: &Frame, code: u8) -> Developed {
     }
 }
 
-/// Develops a frame that must be accepted, into buffers that hold something else.
-pub fn developed(frame: &Frame) -> Developed {
+/// Develops a frame at a black level, into buffers that hold something else.
+pub fn try_develop(frame: &Frame, black: usize) -> Result<Developed, Refusal> {
     let count = frame.width * frame.height;
     let mut developed = Developed {
         red: vec![-9_999; count],
@@ -195,19 +210,29 @@ pub fn developed(frame: &Frame) -> Developed {
         blue: vec![-7_777; count],
         map: vec![99; count],
     };
-    let answer = develop(
+    develop(
         frame.width,
         frame.height,
         frame.phase,
+        black,
         &frame.samples,
         &mut developed.red,
         &mut developed.green,
         &mut developed.blue,
         &mut developed.map,
         &mut vec![-6_666; 4 * count],
-    );
-    assert_eq!(answer, Ok(()), "{frame:?}");
-    developed
+    )?;
+    Ok(developed)
+}
+
+/// The same of a frame that must be accepted.
+pub fn developed_at(frame: &Frame, black: usize) -> Developed {
+    try_develop.accepted(frame, black)
+}
+
+/// The same at black level 0.
+pub fn developed(frame: &Frame) -> Developed {
+    developed_at(frame, 0)
 }
 
 /// The file that the writer makes of a frame, in a buffer that holds something else.
