@@ -6,6 +6,10 @@
 #include <stdio.h>
 #include <stdlib.h>
 
+/* The camera's black level: the sample that stands for no light. A frame file does not hold it. 0 is right for samples that had it taken
+   off before, as those of the document's example. */
+static const size_t black = 0;
+
 /* The buffers that are lent to the calls. */
 struct buffers {
     uint16_t *samples;
@@ -65,8 +69,8 @@ static int develop(struct bayer_shape shape, struct buffers *lent)
     lent->clamped = room(count, sizeof *lent->clamped);
     lent->map = room(map_length, sizeof *lent->map);
     lent->work = room(work_length, sizeof *lent->work);
-    const struct bayer_returned returned = bayer_develop(shape, lent->samples, count, lent->red, count, lent->green, count, lent->blue,
-                                                         count, lent->map, map_length, lent->work, work_length);
+    const struct bayer_returned returned = bayer_develop(shape, black, lent->samples, count, lent->red, count, lent->green, count,
+                                                         lent->blue, count, lent->map, map_length, lent->work, work_length);
     if (returned.number != BAYER_DONE) {
         return refused(returned.number, returned.place);
     }

@@ -15,6 +15,10 @@
 
 namespace {
 
+// The camera's black level: the sample that stands for no light. A frame file does not hold it. 0 is right for samples that had it taken
+// off before, as those of the document's example.
+const std::size_t black = 0;
+
 // A refusal's number and place.
 class Refused : public std::runtime_error {
 public:
@@ -57,7 +61,7 @@ Planes develop(const Frame &frame)
     const std::vector<std::uint8_t> undecided(BAYER_MAP_LENGTH(frame.shape.width, frame.shape.height));
     Planes planes = {empty, empty, empty, undecided};
     std::vector<std::int32_t> work(BAYER_WORK_LENGTH(frame.shape.width, frame.shape.height));
-    accept(bayer_develop(frame.shape, frame.mosaic.data(), count, planes.red.data(), count, planes.green.data(), count,
+    accept(bayer_develop(frame.shape, black, frame.mosaic.data(), count, planes.red.data(), count, planes.green.data(), count,
                          planes.blue.data(), count, planes.map.data(), planes.map.size(), work.data(), work.size()));
     return planes;
 }

@@ -6,6 +6,10 @@ import ctypes
 import sys
 from ctypes import POINTER, c_char_p, c_int32, c_size_t, c_uint16, c_uint8
 
+# The camera's black level: the sample that stands for no light. A frame file does not hold it. 0 is right for samples that had it taken off
+# before, as those of the document's example.
+BLACK = 0
+
 
 class Shape(ctypes.Structure):
     _fields_ = [("width", c_size_t), ("height", c_size_t), ("phase", c_size_t)]
@@ -40,7 +44,7 @@ class Bayer:
         library.bayer_read.argtypes = lent(c_uint8) + lent(c_uint16)
         library.bayer_read.restype = ReadReturned
         library.bayer_write.argtypes = [Shape] + lent(c_uint16) + lent(c_uint8)
-        library.bayer_develop.argtypes = [Shape] + lent(c_uint16) + 3 * lent(c_int32) + lent(c_uint8) + lent(c_int32)
+        library.bayer_develop.argtypes = [Shape, c_size_t] + lent(c_uint16) + 3 * lent(c_int32) + lent(c_uint8) + lent(c_int32)
         library.bayer_clamp.argtypes = 2 * lent(c_int32)
         for call in (library.bayer_write, library.bayer_develop, library.bayer_clamp):
             call.restype = Returned
@@ -76,15 +80,16 @@ class Bayer:
         self._accept(self.library.bayer_write(shape, mosaic, len(mosaic), file, len(file)))
         return bytes(file)
 
-    def develop(self, shape, samples):
-        """Three planes, unclamped, and the decision map: how the green of each site was decided."""
+    def develop(self, shape, black, samples):
+        """Three planes, unclamped, with the black level taken off each number, and the decision map: how the green of each site was
+        decided."""
         count = len(samples)
         mosaic = (c_uint16 * count)(*samples)
         planes = [(c_int32 * count)() for _ in range(3)]
         decisions = (c_uint8 * count)()
         work = (c_int32 * (4 * count))()
         buffers = [part for buffer in [mosaic, *planes, decisions, work] for part in (buffer, len(buffer))]
-        self._accept(self.library.bayer_develop(shape, *buffers))
+        self._accept(self.library.bayer_develop(shape, black, *buffers))
         return [list(plane) for plane in planes], bytes(decisions)
 
     def clamp(self, plane):
@@ -100,7 +105,7 @@ def main(library, path):
         file = stream.read()
     try:
         shape, samples = bayer.read(file)
-        planes, _ = bayer.develop(shape, samples)
+        planes, _ = bayer.develop(shape, BLACK, samples)
         clamped = [bayer.clamp(plane) for plane in planes]
     except Refused as refused:
         print(refused)

@@ -1,8 +1,9 @@
-/* Develops frames of 10-bit Bayer samples to red, green and blue planes and tells how each green was decided, holds planes to 0..1,023,
-   and reads and writes frame files (docs/FORMAT.md). Usable from C99 and C++11 on. Link libbayer.a or libbayer.so.
+/* Develops frames of 10-bit Bayer samples at a black level to red, green and blue planes and tells how each green was decided, holds planes
+   to 0..1,023, and reads and writes frame files (docs/FORMAT.md). Usable from C99 and C++11 on. Link libbayer.a or libbayer.so.
 
    Every input is answered: a call returns 0, 0 or the number and place of a refusal, and a refusal leaves every buffer as it was.
-   Arguments stand in one order in all calls: shape, mosaic, the planes red, green and blue, map, work, each buffer before its length.
+   Arguments stand in one order in all calls: shape, black level, mosaic, the planes red, green and blue, map, work, each buffer before its
+   length.
 
    What the caller owes:
    - a pointer is valid for its length, which counts entries and not bytes, and is aligned for its type;
@@ -31,18 +32,22 @@ extern "C" {
 
 /* The version of this header; bayer_version() tells that of the linked library. The first number changes where a program has to be
    built again. */
-#define BAYER_VERSION_MAJOR 2
+#define BAYER_VERSION_MAJOR 3
 #define BAYER_VERSION_MINOR 0
 #define BAYER_VERSION_PATCH 0
-#define BAYER_VERSION "2.0.0"
+#define BAYER_VERSION "3.0.0"
 
 /* A call takes at most this many bytes of the caller's stack: a thread with just this stack may develop from its first function. */
 #define BAYER_STACK_BYTES 589824
 
-/* What the calls admit: W and H from least to most, samples from 0 to most. */
+/* What the calls admit: W and H from least to most, samples and develop's black level from 0 to most. */
 #define BAYER_SIDE_LEAST 2
 #define BAYER_SIDE_MOST 4096
 #define BAYER_SAMPLE_MOST 1023
+#define BAYER_BLACK_MOST 255
+
+/* How far a sample may lie under the black level. */
+#define BAYER_UNDER_BLACK_MOST 64
 
 /* Entries of a mosaic or a plane, bytes of the decision map, least entries of develop's work buffer, and bytes of the frame file, for
    sides within the range. */
@@ -74,8 +79,8 @@ enum bayer_decision {
     BAYER_WEAK_TO_MEAN = 6   /* the same: the mean of both */
 };
 
-/* The numbers that the calls return, and the place that comes with each. The lower numbers are tested first, except in read, whose order
-   docs/FORMAT.md tells. */
+/* The numbers that the calls return, and the place that comes with each. The order of the tests is 1, 2, 11, 3, 4, 5, 12 in develop, every
+   sample being tested for 5 before the first is refused by 12; 1 to 5 in write; read's order is told by docs/FORMAT.md. */
 enum bayer_number {
     BAYER_DONE = 0,           /* 0: success */
     BAYER_SIZE = 1,           /* 0: W or H below 2 or above 4,096 (develop, write) */
@@ -87,7 +92,9 @@ enum bayer_number {
     BAYER_CHECK = 7,          /* block: its check differs (read) */
     BAYER_HEADER = 8,         /* 0: tag, W, H or phase not allowed (read) */
     BAYER_BLOCK_NUMBER = 9,   /* block: its number differs (read) */
-    BAYER_FILLER = 10         /* block: a filler byte or sample is not zero (read) */
+    BAYER_FILLER = 10,        /* block: a filler byte or sample is not zero (read) */
+    BAYER_BLACK_LEVEL = 11,   /* 0: the black level is above 255 (develop) */
+    BAYER_UNDER_BLACK = 12    /* i*W + j of the first: a sample more than 64 under the black level (develop) */
 };
 
 /* W, H and the phase of a frame. */
@@ -119,11 +126,16 @@ struct bayer_read_returned bayer_read(const uint8_t *file, size_t file_length, u
 struct bayer_returned bayer_write(struct bayer_shape shape, const uint16_t *mosaic, size_t mosaic_length, uint8_t *file,
                                   size_t file_length);
 
-/* Develops a frame into red, green and blue, unclamped: each number lies in -2,046 to 3,069. Into map goes the decision code of each site,
-   enum bayer_decision. Transposing a frame exchanges 2 with 3 and 4 with 5 at matching points; mirroring it, trading red and blue and
-   adding a constant keep every code. The mosaic and the planes have exactly W*H entries, map has exactly BAYER_MAP_LENGTH(W, H), work has
-   BAYER_WORK_LENGTH(W, H) or more. No answer depends on what the planes, map and work held before; after success work may hold anything. */
-struct bayer_returned bayer_develop(struct bayer_shape shape, const uint16_t *mosaic, size_t mosaic_length, int32_t *red,
+/* Develops a frame into red, green and blue, unclamped. black is the black level, the sample that stands for no light, at most
+   BAYER_BLACK_MOST; no sample may lie more than BAYER_UNDER_BLACK_MOST under it. It goes with the call and is no part of the frame, and 0
+   is right for samples that had it taken off before. The samples are developed as they came, and black is taken off each of the three
+   rounded numbers: the sample measured at a site shows there as sample less black, and each number lies in -2,046 - black to 3,069 - black.
+   Where every sample is at least black, planes and map are those that the samples less black give at 0.
+   Into map goes the decision code of each site, enum bayer_decision; it does not depend on black. Transposing a frame exchanges 2 with 3
+   and 4 with 5 at matching points; mirroring it, trading red and blue and adding a constant keep every code.
+   The mosaic and the planes have exactly W*H entries, map has exactly BAYER_MAP_LENGTH(W, H), work has BAYER_WORK_LENGTH(W, H) or more. No
+   answer depends on what the planes, map and work held before; after success work may hold anything. */
+struct bayer_returned bayer_develop(struct bayer_shape shape, size_t black, const uint16_t *mosaic, size_t mosaic_length, int32_t *red,
                                     size_t red_length, int32_t *green, size_t green_length, int32_t *blue, size_t blue_length,
                                     uint8_t *map, size_t map_length, int32_t *work, size_t work_length);
 

@@ -13,6 +13,8 @@ static const char texts[][72] = {
     "the header's tag, width, height or phase is not allowed",
     "a block's number differs",
     "a filler byte or sample is not zero",
+    "a black level above 255",
+    "a sample more than 64 under the black level",
 };
 
 static const char decisions[][32] = {

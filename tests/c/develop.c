@@ -1,5 +1,5 @@
-/* bayer_develop and bayer_clamp called from C: the document's frame, one with every decision, planes clamped, refusals that leave the
-   buffers. */
+/* bayer_develop and bayer_clamp called from C: the document's frame, also at a black level, one with every decision, planes clamped, refusals
+   that leave the buffers. */
 #include <string.h>
 
 #include "bayer.h"
@@ -17,9 +17,11 @@ struct lent {
 };
 
 /* Lends this many entries of the map and of work. */
-static struct bayer_returned develop(struct bayer_shape of, const uint16_t *samples, struct lent *lent, size_t map, size_t work)
+static struct bayer_returned develop(struct bayer_shape of, size_t black, const uint16_t *samples, struct lent *lent, size_t map,
+                                     size_t work)
 {
-    return bayer_develop(of, samples, COUNT, lent->red, COUNT, lent->green, COUNT, lent->blue, COUNT, lent->map, map, lent->work, work);
+    return bayer_develop(of, black, samples, COUNT, lent->red, COUNT, lent->green, COUNT, lent->blue, COUNT, lent->map, map, lent->work,
+                         work);
 }
 
 static int is(struct bayer_returned returned, size_t number, size_t place)
@@ -35,11 +37,27 @@ static void develops_the_example(void)
     const uint8_t map[COUNT] = {BAYER_EQUAL, BAYER_MEASURED, BAYER_MEASURED, BAYER_EQUAL};
     struct lent lent;
     memset(&lent, 0xa5, sizeof lent);
-    expect(is(develop(shape, mosaic, &lent, COUNT, WORK), 0, 0), "develop returns 0, 0");
+    expect(is(develop(shape, 0, mosaic, &lent, COUNT, WORK), 0, 0), "develop returns 0, 0");
     expect(memcmp(lent.red, red, sizeof red) == 0, "the red plane of the example");
     expect(memcmp(lent.green, green, sizeof green) == 0, "the green plane of the example");
     expect(memcmp(lent.blue, blue, sizeof blue) == 0, "the blue plane of the example");
     expect(memcmp(lent.map, map, sizeof map) == 0, "the decision map of the example");
+}
+
+/* The darkest sample, 40, may lie 64 under the black level. */
+static void takes_the_black_level_off(void)
+{
+    const int32_t red[COUNT] = {-4, -14, 7, -4};
+    const int32_t green[COUNT] = {-53, -64, -43, -53};
+    const int32_t blue[COUNT] = {96, 86, 107, 96};
+    const uint8_t map[COUNT] = {BAYER_EQUAL, BAYER_MEASURED, BAYER_MEASURED, BAYER_EQUAL};
+    struct lent lent;
+    memset(&lent, 0xa5, sizeof lent);
+    expect(is(develop(shape, 40 + BAYER_UNDER_BLACK_MOST, mosaic, &lent, COUNT, WORK), 0, 0), "develop at 104 returns 0, 0");
+    expect(memcmp(lent.red, red, sizeof red) == 0, "red less the black level, measured or not");
+    expect(memcmp(lent.green, green, sizeof green) == 0, "green less the black level");
+    expect(memcmp(lent.blue, blue, sizeof blue) == 0, "blue less the black level");
+    expect(memcmp(lent.map, map, sizeof map) == 0, "the map is that of black level 0");
 }
 
 /* The larger frame of tests/reference, which has every code. */
@@ -67,12 +85,14 @@ static void maps_every_decision(void)
     uint8_t map[BAYER_MAP_LENGTH(SIDE, SIDE)];
     memset(map, 0xa5, sizeof map);
     const struct bayer_returned returned =
-        bayer_develop(of, samples, SITES, red, SITES, green, SITES, blue, SITES, map, sizeof map, work, BAYER_WORK_LENGTH(SIDE, SIDE));
+        bayer_develop(of, 64, samples, SITES, red, SITES, green, SITES, blue, SITES, map, sizeof map, work, BAYER_WORK_LENGTH(SIDE, SIDE));
     expect(is(returned, 0, 0) && memcmp(map, codes, sizeof codes) == 0, "the map of a frame with every decision");
 }
 
+/* Of the level 105 the sample 40 is 65 under, and two samples behind it are too high. */
 static void refuses(void)
 {
+    const size_t high = BAYER_BLACK_MOST + 1, black = 105;
     const uint16_t bright[COUNT] = {100, 40, 1024, 1025};
     const struct bayer_shape narrow = {1, 2, 9};
     const struct bayer_shape phase_4 = {2, 2, 4};
@@ -80,12 +100,15 @@ static void refuses(void)
     struct lent lent, before;
     memset(&lent, 0xa5, sizeof lent);
     memcpy(&before, &lent, sizeof lent);
-    expect(is(develop(narrow, bright, &lent, 3, 3), 1, 0), "develop tests the size first: 1, 0");
-    expect(is(develop(phase_4, bright, &lent, 3, 3), 2, 0), "then the phase: 2, 0");
-    expect(is(develop(wide, bright, &lent, 3, 3), 3, 0), "then the mosaic's length: 3, 0");
-    expect(is(develop(shape, bright, &lent, COUNT, WORK - 1), 4, 0), "then the other lengths, of work: 4, 0");
-    expect(is(develop(shape, bright, &lent, COUNT - 1, WORK), 4, 0), "and of the map: 4, 0");
-    expect(is(develop(shape, bright, &lent, COUNT, WORK), 5, 2), "then the samples: 5 and the place of the first");
+    expect(is(develop(narrow, high, bright, &lent, 3, 3), 1, 0), "develop tests the size first: 1, 0");
+    expect(is(develop(phase_4, high, bright, &lent, 3, 3), 2, 0), "then the phase: 2, 0");
+    expect(is(develop(wide, high, bright, &lent, 3, 3), 11, 0), "then the black level: 11, 0");
+    expect(is(develop(wide, SIZE_MAX, bright, &lent, 3, 3), 11, 0), "also the greatest of all: 11, 0");
+    expect(is(develop(wide, black, bright, &lent, 3, 3), 3, 0), "then the mosaic's length: 3, 0");
+    expect(is(develop(shape, black, bright, &lent, COUNT, WORK - 1), 4, 0), "then the other lengths, of work: 4, 0");
+    expect(is(develop(shape, black, bright, &lent, COUNT - 1, WORK), 4, 0), "and of the map: 4, 0");
+    expect(is(develop(shape, black, bright, &lent, COUNT, WORK), 5, 2), "then all samples for 1,023: 5 and the place of the first");
+    expect(is(develop(shape, black, mosaic, &lent, COUNT, WORK), 12, 1), "then for the black level: 12 and the place of the first");
     expect(memcmp(&lent, &before, sizeof lent) == 0, "a refused develop leaves every buffer");
 }
 
@@ -103,6 +126,7 @@ static void clamps(void)
 int main(void)
 {
     develops_the_example();
+    takes_the_black_level_off();
     maps_every_decision();
     refuses();
     clamps();

@@ -13,16 +13,18 @@ static const uint16_t mosaic[COUNT] = {100, 40, 61, 200};
 static void texts(void)
 {
     int differ = 1;
-    for (size_t number = BAYER_DONE; number <= BAYER_FILLER + 1; number++) {
+    for (size_t number = BAYER_DONE; number <= BAYER_UNDER_BLACK + 1; number++) {
         for (size_t other = 0; other < number; other++) {
             differ = differ && strcmp(bayer_text(number), bayer_text(other)) != 0;
         }
     }
     expect(differ && bayer_text(BAYER_DONE)[0] != '\0', "each number has a text of its own");
-    expect(strcmp(bayer_text(BAYER_FILLER + 1), bayer_text(SIZE_MAX)) == 0, "numbers that no call returns have one text");
+    expect(strcmp(bayer_text(BAYER_UNDER_BLACK + 1), bayer_text(SIZE_MAX)) == 0, "numbers that no call returns have one text");
     expect(strstr(bayer_text(BAYER_SIZE), "4096") != NULL, "the text of 1 is that of the size");
     expect(strstr(bayer_text(BAYER_SAMPLE), "1023") != NULL, "the text of 5 is that of the samples");
     expect(strstr(bayer_text(BAYER_FILLER), "filler") != NULL, "the text of 10 is that of the filler");
+    expect(strstr(bayer_text(BAYER_BLACK_LEVEL), "255") != NULL, "the text of 11 is that of the black level");
+    expect(strstr(bayer_text(BAYER_UNDER_BLACK), "64 under") != NULL, "the text of 12 is that of samples under it");
 }
 
 static void decision_texts(void)
@@ -127,20 +129,20 @@ static void null_planes(void)
 {
     int32_t red[COUNT], green[COUNT], blue[COUNT], work[WORK];
     uint8_t map[COUNT];
-    struct bayer_returned returned = bayer_develop(shape, NULL, 0, red, COUNT, green, COUNT, blue, COUNT, map, COUNT, work, WORK);
+    struct bayer_returned returned = bayer_develop(shape, 0, NULL, 0, red, COUNT, green, COUNT, blue, COUNT, map, COUNT, work, WORK);
     expect(is(returned, BAYER_MOSAIC_LENGTH), "develop, mosaic null with length 0: 3, 0");
-    returned = bayer_develop(shape, mosaic, COUNT, NULL, 0, green, COUNT, blue, COUNT, map, COUNT, work, WORK);
+    returned = bayer_develop(shape, 0, mosaic, COUNT, NULL, 0, green, COUNT, blue, COUNT, map, COUNT, work, WORK);
     expect(is(returned, BAYER_BUFFER_LENGTH), "develop, red null with length 0: 4, 0");
-    returned = bayer_develop(shape, mosaic, COUNT, red, COUNT, NULL, 0, blue, COUNT, map, COUNT, work, WORK);
+    returned = bayer_develop(shape, 0, mosaic, COUNT, red, COUNT, NULL, 0, blue, COUNT, map, COUNT, work, WORK);
     expect(is(returned, BAYER_BUFFER_LENGTH), "develop, green null with length 0: 4, 0");
-    returned = bayer_develop(shape, mosaic, COUNT, red, COUNT, green, COUNT, NULL, 0, map, COUNT, work, WORK);
+    returned = bayer_develop(shape, 0, mosaic, COUNT, red, COUNT, green, COUNT, NULL, 0, map, COUNT, work, WORK);
     expect(is(returned, BAYER_BUFFER_LENGTH), "develop, blue null with length 0: 4, 0");
-    returned = bayer_develop(shape, mosaic, COUNT, red, COUNT, green, COUNT, blue, COUNT, NULL, 0, work, WORK);
+    returned = bayer_develop(shape, 0, mosaic, COUNT, red, COUNT, green, COUNT, blue, COUNT, NULL, 0, work, WORK);
     expect(is(returned, BAYER_BUFFER_LENGTH), "develop, map null with length 0: 4, 0");
-    returned = bayer_develop(shape, mosaic, COUNT, red, COUNT, green, COUNT, blue, COUNT, map, COUNT, NULL, 0);
+    returned = bayer_develop(shape, 0, mosaic, COUNT, red, COUNT, green, COUNT, blue, COUNT, map, COUNT, NULL, 0);
     expect(is(returned, BAYER_BUFFER_LENGTH), "develop, work null with length 0: 4, 0");
     const struct bayer_shape none = {0, 0, 0};
-    returned = bayer_develop(none, NULL, 0, NULL, 0, NULL, 0, NULL, 0, NULL, 0, NULL, 0);
+    returned = bayer_develop(none, 0, NULL, 0, NULL, 0, NULL, 0, NULL, 0, NULL, 0, NULL, 0);
     expect(is(returned, BAYER_SIZE), "develop, everything null and 0: 1, 0");
     expect(is(bayer_clamp(NULL, 0, NULL, 0), BAYER_DONE), "clamp, both null with length 0: 0, 0");
     expect(is(bayer_clamp(NULL, 0, red, COUNT), BAYER_BUFFER_LENGTH), "clamp, plane null with length 0: 4, 0");

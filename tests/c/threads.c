@@ -7,7 +7,7 @@
 #include "expect.h"
 #include "noise.h"
 
-enum { THREADS = 8, SIDE = 600 };
+enum { THREADS = 8, SIDE = 600, BLACK = 64 };
 
 /* One call of develop: what is lent to it and what it returned. */
 struct call {
@@ -23,8 +23,8 @@ static void *develop(void *argument)
 {
     struct call *call = argument;
     call->returned =
-        bayer_develop(call->shape, call->mosaic, call->count, call->red, call->count, call->green, call->count, call->blue, call->count,
-                      call->map, call->count, call->work, BAYER_WORK_LENGTH(call->shape.width, call->shape.height));
+        bayer_develop(call->shape, BLACK, call->mosaic, call->count, call->red, call->count, call->green, call->count, call->blue,
+                      call->count, call->map, call->count, call->work, BAYER_WORK_LENGTH(call->shape.width, call->shape.height));
     return NULL;
 }
 

@@ -8,6 +8,10 @@ use bayer::{clamp, develop, read, read_length, Refusal, Shape};
 
 type Plane = Vec<i32>;
 
+/// The camera's black level: the sample that stands for no light. A frame file does not hold it. 0 is right for samples that had it taken
+/// off before, as those of the document's example.
+const BLACK: usize = 0;
+
 /// The frame's shape and its three clamped planes.
 fn developed(file: &[u8]) -> Result<(Shape, [Plane; 3]), Refusal> {
     let mut samples = vec![0; read_length(file.len())];
@@ -18,6 +22,7 @@ fn developed(file: &[u8]) -> Result<(Shape, [Plane; 3]), Refusal> {
     let mut work = vec![0; shape.work_length()];
     develop(
         shape,
+        BLACK,
         &samples[..count],
         &mut red,
         &mut green,

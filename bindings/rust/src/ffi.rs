@@ -36,6 +36,7 @@ extern "C" {
 
     pub fn bayer_develop(
         shape: Shape,
+        black: usize,
         mosaic: *const u16,
         mosaic_length: usize,
         red: *mut i32,

@@ -1,5 +1,5 @@
-//! Develops frames of 10-bit Bayer samples to red, green and blue planes and a map of how each green was decided, clamps planes, and
-//! reads and writes frame files.
+//! Develops frames of 10-bit Bayer samples at a black level to red, green and blue planes and a map of how each green was decided, clamps
+//! planes, and reads and writes frame files.
 //!
 //! Safe functions over slices; the work is done by libbayer. Every input is answered: a call succeeds, or returns a [`Refusal`] and leaves
 //! every buffer as it was. Nothing is allocated, and calls may run in any number of threads.
@@ -8,8 +8,9 @@
 //! let shape = bayer::Shape { width: 2, height: 2, phase: 0 };
 //! let mosaic = [100, 40, 61, 200];
 //! let (mut red, mut green, mut blue, mut map, mut work) = ([0; 4], [0; 4], [0; 4], [0; 4], [0; 16]);
-//! bayer::develop(shape, &mosaic, &mut red, &mut green, &mut blue, &mut map, &mut work)?;
-//! assert_eq!((red, green, blue), ([100, 90, 111, 100], [51, 40, 61, 51], [200, 190, 211, 200]));
+//! let black = 40;
+//! bayer::develop(shape, black, &mosaic, &mut red, &mut green, &mut blue, &mut map, &mut work)?;
+//! assert_eq!((red, green, blue), ([60, 50, 71, 60], [11, 0, 21, 11], [160, 150, 171, 160]));
 //! assert_eq!(bayer::Decision::from_code(map[0]), Some(bayer::Decision::Equal));
 //! # Ok::<(), bayer::Refusal>(())
 //! ```
@@ -37,6 +38,12 @@ pub const SIDES: std::ops::RangeInclusive<usize> = 2..=4096;
 
 /// The greatest sample.
 pub const SAMPLE_MOST: u16 = 1023;
+
+/// The greatest black level.
+pub const BLACK_MOST: usize = 255;
+
+/// How far a sample may lie under the black level.
+pub const UNDER_BLACK_MOST: usize = 64;
 
 impl Shape {
     /// Entries of the mosaic and of each plane: W·H. For sides past the range the product is cut, and every call refuses them.
@@ -104,11 +111,15 @@ pub fn write(shape: Shape, mosaic: &[u16], file: &mut [u8]) -> Result<(), Refusa
     returned.accepted()
 }
 
-/// Develops a frame into three planes, unclamped, and the code of each site's [`Decision`] into `map`. The mosaic and the planes have
-/// exactly [`Shape::plane_length`] entries, `map` has exactly [`Shape::map_length`], `work` has [`Shape::work_length`] or more. No answer
-/// depends on what the planes, `map` and `work` held before; after success `work` may hold anything.
+/// Develops a frame into three planes, unclamped, and the code of each site's [`Decision`] into `map`. The samples are developed as they
+/// came, and `black`, the sample that stands for no light, is taken off each of the three rounded numbers; 0 is right for samples that had
+/// it taken off before. `map` does not depend on it. The mosaic and the planes have exactly [`Shape::plane_length`] entries, `map` has
+/// exactly [`Shape::map_length`], `work` has [`Shape::work_length`] or more. No answer depends on what the planes, `map` and `work` held
+/// before; after success `work` may hold anything.
+#[allow(clippy::too_many_arguments)] // the library lends all of these
 pub fn develop(
     shape: Shape,
+    black: usize,
     mosaic: &[u16],
     red: &mut [i32],
     green: &mut [i32],
@@ -120,6 +131,7 @@ pub fn develop(
     let returned = unsafe {
         ffi::bayer_develop(
             shape,
+            black,
             mosaic.as_ptr(),
             mosaic.len(),
             red.as_mut_ptr(),

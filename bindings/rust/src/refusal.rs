@@ -31,6 +31,10 @@ impl Refusal {
     pub const BLOCK_NUMBER: usize = 9;
     /// A filler byte or sample of the block at the place is not zero.
     pub const FILLER: usize = 10;
+    /// The black level is above 255.
+    pub const BLACK_LEVEL: usize = 11;
+    /// A sample more than 64 under the black level; the place is that of the first.
+    pub const UNDER_BLACK: usize = 12;
 }
 
 impl fmt::Display for Refusal {

@@ -2,6 +2,7 @@
 
 use bayer::{
     clamp, decision_text, develop, read, read_length, text, write, Decision, Refusal, Shape,
+    BLACK_MOST, UNDER_BLACK_MOST,
 };
 
 const SHAPE: Shape = Shape {
@@ -32,45 +33,69 @@ fn with_check(mut file: Vec<u8>, block: usize) -> Vec<u8> {
     file
 }
 
-#[test]
-fn develops_the_example() {
+/// The example developed at a black level: the planes red, green and blue, and the map.
+fn example_at(black: usize) -> Result<([[i32; 4]; 3], [u8; 4]), Refusal> {
     let (mut red, mut green, mut blue) = ([7; 4], [7; 4], [7; 4]);
     let (mut map, mut work) = ([7; 4], [7; 16]);
     develop(
-        SHAPE, &MOSAIC, &mut red, &mut green, &mut blue, &mut map, &mut work,
-    )
-    .unwrap();
+        SHAPE, black, &MOSAIC, &mut red, &mut green, &mut blue, &mut map, &mut work,
+    )?;
+    Ok(([red, green, blue], map))
+}
+
+#[test]
+fn develops_the_example() {
+    let ([red, green, blue], map) = example_at(0).unwrap();
     assert_eq!(red, [100, 90, 111, 100]);
     assert_eq!(green, [51, 40, 61, 51]);
     assert_eq!(blue, [200, 190, 211, 200]);
     assert_eq!(map, [1, 0, 0, 1]);
 }
 
+/// The darkest sample of the example is 40, so that levels to 104 are accepted.
+#[test]
+fn develops_the_example_at_a_black_level() {
+    let (planes, map) = example_at(0).unwrap();
+    for black in [1, 40, 64, 65, 40 + UNDER_BLACK_MOST] {
+        let less = planes.map(|plane| plane.map(|number| number - black as i32));
+        assert_eq!(example_at(black), Ok((less, map)), "{black}");
+    }
+    for (black, first_dark) in [(41 + UNDER_BLACK_MOST, 1), (BLACK_MOST, 0)] {
+        let answer = example_at(black).map(|_| ());
+        assert_eq!(answer, refused(Refusal::UNDER_BLACK, first_dark));
+    }
+}
+
 #[test]
 fn develop_refuses_and_leaves_the_buffers() {
-    let refuses = |shape, mosaic: &[u16], [map, work]: [usize; 2], number, place| {
+    let refuses = |shape, black, mosaic: &[u16], [map, work]: [usize; 2], number, place| {
         let (mut red, mut green, mut blue) = ([7; 4], [7; 4], [7; 4]);
         let (mut map, mut work) = (vec![7; map], vec![7; work]);
         let answer = develop(
-            shape, mosaic, &mut red, &mut green, &mut blue, &mut map, &mut work,
+            shape, black, mosaic, &mut red, &mut green, &mut blue, &mut map, &mut work,
         );
         assert_eq!(answer, refused(number, place));
         assert_eq!([red, green, blue], [[7; 4]; 3]);
         assert!(map.iter().all(|&code| code == 7));
         assert!(work.iter().all(|&entry| entry == 7));
     };
-    let (bright, short) = ([100, 40, 1024, 1025], [4, 15]);
+    // Of 105 the sample 40 is 65 under; two samples are too high behind it.
+    let (bright, short, high) = ([100, 40, 1024, 1025], [4, 15], BLACK_MOST + 1);
     let narrow = Shape { width: 1, ..SHAPE };
-    refuses(narrow, &bright, short, Refusal::SIZE, 0);
+    refuses(narrow, high, &bright, short, Refusal::SIZE, 0);
     let phase_4 = Shape { phase: 4, ..SHAPE };
-    refuses(phase_4, &bright, short, Refusal::PHASE, 0);
-    refuses(SHAPE, &bright[..3], short, Refusal::MOSAIC_LENGTH, 0);
-    refuses(SHAPE, &[], [0, 0], Refusal::MOSAIC_LENGTH, 0);
-    refuses(SHAPE, &bright, short, Refusal::BUFFER_LENGTH, 0);
-    for map in [0, 3, 5, 16] {
-        refuses(SHAPE, &bright, [map, 16], Refusal::BUFFER_LENGTH, 0);
+    refuses(phase_4, high, &bright, short, Refusal::PHASE, 0);
+    for high in [high, 1 << 16, usize::MAX] {
+        refuses(SHAPE, high, &bright[..3], short, Refusal::BLACK_LEVEL, 0);
     }
-    refuses(SHAPE, &bright, [4, 16], Refusal::SAMPLE, 2);
+    refuses(SHAPE, 105, &bright[..3], short, Refusal::MOSAIC_LENGTH, 0);
+    refuses(SHAPE, 105, &[], [0, 0], Refusal::MOSAIC_LENGTH, 0);
+    refuses(SHAPE, 105, &bright, short, Refusal::BUFFER_LENGTH, 0);
+    for map in [0, 3, 5, 16] {
+        refuses(SHAPE, 105, &bright, [map, 16], Refusal::BUFFER_LENGTH, 0);
+    }
+    refuses(SHAPE, 105, &bright, [4, 16], Refusal::SAMPLE, 2);
+    refuses(SHAPE, 105, &MOSAIC, [4, 16], Refusal::UNDER_BLACK, 1);
 }
 
 #[test]
@@ -154,9 +179,9 @@ fn lengths_for_any_sides() {
 
 #[test]
 fn texts_and_version() {
-    let texts: std::collections::HashSet<_> = (0..=11).map(text).collect();
-    assert_eq!(texts.len(), 12);
-    assert_eq!(text(usize::MAX), text(11));
+    let texts: std::collections::HashSet<_> = (0..=13).map(text).collect();
+    assert_eq!(texts.len(), 14);
+    assert_eq!(text(usize::MAX), text(13));
     let refusal = Refusal {
         number: Refusal::SAMPLE,
         place: 9,
