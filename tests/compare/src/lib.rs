@@ -59,6 +59,7 @@ pub fn develop(
     width: usize,
     height: usize,
     phase: usize,
+    black: usize,
     mosaic: &[u16],
     red: &mut [i32],
     green: &mut [i32],
@@ -71,7 +72,9 @@ pub fn develop(
         height,
         phase,
     };
-    told(bayer::develop(shape, mosaic, red, green, blue, map, work))
+    told(bayer::develop(
+        shape, black, mosaic, red, green, blue, map, work,
+    ))
 }
 
 pub fn clamp(plane: &[i32], clamped: &mut [i32]) -> Result<(), Refusal> {

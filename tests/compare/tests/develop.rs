@@ -1,11 +1,13 @@
-//! The proved develop against the independent one: answers, and every entry of every plane and of the decision map.
+//! The proved develop against the independent one, at every kind of black level: answers, and every entry of every plane and of the
+//! decision map.
 
 mod both;
 #[path = "../../reference/tests/common/mod.rs"]
 mod common;
 
-use both::{both_accept, library_developed};
-use common::{edge_frame, frame, frame_of_sides, grey, Generator, Kind, KINDS};
+use both::{both_accept, library_try_develop};
+use common::black::{bright_enough, frame_and_level, level};
+use common::{edge_frame, frame_of_sides, grey, Generator, Kind, KINDS};
 
 #[test]
 fn random_frames_of_every_kind() {
@@ -13,12 +15,9 @@ fn random_frames_of_every_kind() {
     let mut generator = Generator::new(seed);
     for turn in 0..600 {
         for kind in KINDS {
-            let frame = frame(&mut generator, kind, 70);
-            both_accept(
-                &format!("seed {seed}, turn {turn}, {kind:?}"),
-                &mut generator,
-                &frame,
-            );
+            let (frame, black) = frame_and_level(&mut generator, kind, 70);
+            let at = format!("seed {seed}, turn {turn}, {kind:?}");
+            both_accept(&at, &mut generator, &frame, black);
         }
     }
 }
@@ -29,10 +28,12 @@ fn every_size_from_2_to_17_in_every_phase() {
     let mut generator = Generator::new(seed);
     for (width, height) in (2..=17).flat_map(|width| (2..=17).map(move |height| (width, height))) {
         for phase in 0..4 {
-            let kind = generator.one_of(&KINDS);
-            let mut frame = frame_of_sides(&mut generator, kind, width, height);
+            let (kind, black) = (generator.one_of(&KINDS), level(&mut generator));
+            let frame = frame_of_sides(&mut generator, kind, width, height);
+            let mut frame = bright_enough(frame, black);
             frame.phase = phase;
-            both_accept(&format!("seed {seed}, {kind:?}"), &mut generator, &frame);
+            let at = format!("seed {seed}, {kind:?}");
+            both_accept(&at, &mut generator, &frame, black);
         }
     }
 }
@@ -44,9 +45,12 @@ fn sides_of_512() {
     let kinds = [Kind::Random, Kind::FewValued, Kind::Smooth, Kind::Glaze];
     for (phase, kind) in kinds.into_iter().enumerate() {
         let (width, height) = generator.one_of(&[(512, 512), (512, 511), (511, 512), (513, 512)]);
-        let mut frame = frame_of_sides(&mut generator, kind, width, height);
+        let black = generator.one_of(&[64, 65, 255]);
+        let frame = frame_of_sides(&mut generator, kind, width, height);
+        let mut frame = bright_enough(frame, black);
         frame.phase = phase;
-        both_accept(&format!("seed {seed}, {kind:?}"), &mut generator, &frame);
+        let at = format!("seed {seed}, {kind:?}");
+        both_accept(&at, &mut generator, &frame, black);
     }
 }
 
@@ -57,9 +61,11 @@ fn the_greatest_width_and_the_greatest_height() {
     for short in [2, 3, 6, 13, 24] {
         for long in [4_095, 4_096] {
             for (width, height) in [(long, short), (short, long)] {
-                let kind = generator.one_of(&KINDS);
+                let (kind, black) = (generator.one_of(&KINDS), level(&mut generator));
                 let frame = frame_of_sides(&mut generator, kind, width, height);
-                both_accept(&format!("seed {seed}, {kind:?}"), &mut generator, &frame);
+                let frame = bright_enough(frame, black);
+                let at = format!("seed {seed}, {kind:?}");
+                both_accept(&at, &mut generator, &frame, black);
             }
         }
     }
@@ -67,9 +73,13 @@ fn the_greatest_width_and_the_greatest_height() {
 
 /// And every red and blue site is strong down.
 #[test]
-fn k10_planes_equal_the_mosaic_in_every_phase() {
+fn k10_planes_equal_the_mosaic_less_the_black_level_in_every_phase() {
     for phase in 0..4 {
         let frame = edge_frame(phase);
-        assert_eq!(library_developed(&frame), grey(&frame, 3), "phase {phase}");
+        for black in [0, 1, 64] {
+            let expected = grey(&frame, 3).plus(-(black as i32));
+            let found = library_try_develop(&frame, black);
+            assert_eq!(found, Ok(expected), "phase {phase} at {black}");
+        }
     }
 }

@@ -5,25 +5,24 @@ mod both;
 mod common;
 
 use both::{both_develop, disturb};
-use common::lent::Lent;
+use common::black::{bright_enough, held_up, level, LEVELS, TOO_HIGH};
+use common::lent::{place_of, Lent, ORDER};
 use common::{frame, with, Generator, KINDS};
 use reference::calls::{refused, returned};
 
-/// The faults of the numbers whose bit is set; the lowest of them is told.
+/// The faults of the numbers whose bit is set, in the order of the tests; the first of them is told.
 #[test]
 fn every_set_of_faults_at_once() {
     let seed = 84;
     let mut generator = Generator::new(seed);
-    for faults in (1_u32..32).cycle().take(31 * 40) {
+    for faults in (1_u32..128).cycle().take(127 * 20) {
         let mut lent = Lent::small(&mut generator);
-        for number in (1..=5)
-            .rev()
-            .filter(|number| faults >> (number - 1) & 1 == 1)
-        {
-            lent.spoil(number, &mut generator);
+        for bit in (0..ORDER.len()).rev().filter(|bit| faults >> bit & 1 == 1) {
+            lent.spoil(ORDER[bit], &mut generator);
         }
-        let answer = both_develop(&format!("seed {seed}, faults {faults:05b}"), &lent);
-        assert_eq!(answer, refused(faults.trailing_zeros() + 1, 0));
+        let first = ORDER[faults.trailing_zeros() as usize];
+        let answer = both_develop(&format!("seed {seed}, faults {faults:07b}"), &lent);
+        assert_eq!(answer, refused(first, place_of(first)));
     }
 }
 
@@ -31,19 +30,92 @@ fn every_set_of_faults_at_once() {
 fn faults_at_random() {
     let seed = 85;
     let mut generator = Generator::new(seed);
-    let mut seen = [0; 6];
+    let mut seen = [0; 13];
     for turn in 0..4_000 {
         let kind = generator.one_of(&KINDS);
-        let frame = frame(&mut generator, kind, 12);
-        let mut lent = Lent::new(&mut generator, &frame, 0);
+        let black = level(&mut generator);
+        let frame = bright_enough(frame(&mut generator, kind, 12), black);
+        let mut lent = Lent::new(&mut generator, &frame, black, 0);
         disturb(&mut generator, &mut lent);
         let answer = both_develop(&format!("seed {seed}, turn {turn}"), &lent);
         seen[returned(&answer).0 as usize] += 1;
     }
+    let often = |number: u32| seen[number as usize] >= 100;
     assert!(
-        seen.iter().all(|&count| count >= 100),
+        often(0) && ORDER.into_iter().all(often),
         "seed {seed}: {seen:?}"
     );
+}
+
+/// Frames as they come: the black level alone decides between 0, 11 and 12.
+#[test]
+fn black_levels_at_random() {
+    let seed = 77;
+    let mut generator = Generator::new(seed);
+    let mut seen = [0; 13];
+    for turn in 0..2_000 {
+        let kind = generator.one_of(&KINDS);
+        let frame = frame(&mut generator, kind, 24);
+        let any = generator.between(0, i64::MAX - 1) as usize;
+        let admitted = level(&mut generator);
+        let too_high = generator.one_of(&TOO_HIGH);
+        let black = generator.one_of(&[admitted, admitted, too_high, any, any % 512]);
+        let lent = Lent::new(&mut generator, &frame, black, 0);
+        let answer = both_develop(&format!("seed {seed}, turn {turn}, {kind:?}"), &lent);
+        seen[returned(&answer).0 as usize] += 1;
+    }
+    let often = |number: usize| seen[number] >= 200;
+    assert!(often(0) && often(11) && often(12), "seed {seed}: {seen:?}");
+}
+
+/// The levels at the ends, for frames that 11 and 12 do not concern and for some that they do.
+#[test]
+fn each_black_level_at_the_ends() {
+    let seed = 78;
+    let mut generator = Generator::new(seed);
+    for kind in KINDS {
+        let bright = held_up(frame(&mut generator, kind, 12), 191);
+        for (black, number) in [(255, 0), (256, 11), (usize::MAX, 11)] {
+            let lent = Lent::new(&mut generator, &bright, black, 0);
+            let answer = both_develop(&format!("seed {seed}, {kind:?}"), &lent);
+            assert_eq!(returned(&answer), (number, 0));
+        }
+        for black in LEVELS {
+            let lent = Lent::new(&mut generator, &bright, black, 0);
+            let dark = with(&lent, |lent| lent.mosaic.fill(0));
+            let answer = both_develop(&format!("seed {seed}, {kind:?}"), &dark);
+            assert_eq!(answer.is_ok(), black <= 64, "{black}");
+        }
+    }
+}
+
+/// 65 under the black level at every place, which 12 tells, and 64 under it there; then a sample too high behind it, which 5 tells.
+#[test]
+fn a_sample_too_dark_at_every_place() {
+    let seed = 79;
+    let mut generator = Generator::new(seed);
+    for black in [65, 66, 128, 254, 255] {
+        let mut small = Lent::small(&mut generator);
+        small.black = black;
+        small
+            .mosaic
+            .iter_mut()
+            .for_each(|z| *z = (*z).max(black as u16));
+        let last = small.mosaic.len() - 1;
+        for place in 0..=last {
+            let at = format!("seed {seed}, {black} at {place}");
+            let darkest = with(&small, |lent| lent.mosaic[place] = (black - 64) as u16);
+            assert_eq!(both_develop(&at, &darkest), Ok(()));
+            let dark = with(&small, |lent| lent.mosaic[place] = (black - 65) as u16);
+            assert_eq!(both_develop(&at, &dark), refused(12, place));
+            let twice = with(&dark, |lent| lent.mosaic[place..].fill(0));
+            assert_eq!(both_develop(&at, &twice), refused(12, place));
+            for high in place + 1..=last {
+                let both = with(&dark, |lent| lent.mosaic[high] = 1_024);
+                assert_eq!(both_develop(&at, &both), refused(5, high));
+            }
+        }
+    }
 }
 
 #[test]

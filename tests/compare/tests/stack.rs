@@ -22,13 +22,14 @@ fn calls_take_no_more_stack_than_the_header_says() {
     for (width, height) in [(2, 2), (4_096, 3), (3, 4_096), (61, 47)] {
         let frame = frame_of_sides(&mut generator, Kind::FewValued, width, height);
         let (count, phase) = (width * height, frame.phase);
-        let (mosaic, mut file) = (&frame.samples, written(&frame));
+        let (mosaic, mut file, black) = (&frame.samples, written(&frame), 64);
         let (mut red, mut green, mut blue) = (vec![0; count], vec![0; count], vec![0; count]);
         let (mut map, mut work) = (vec![0; count], vec![0; 4 * count]);
         let mut samples = vec![0; count];
         let develop = depth(&mut || {
             let answer = compare::develop(
-                width, height, phase, mosaic, &mut red, &mut green, &mut blue, &mut map, &mut work,
+                width, height, phase, black, mosaic, &mut red, &mut green, &mut blue, &mut map,
+                &mut work,
             );
             assert_eq!(answer, Ok(()));
         });

@@ -5,7 +5,7 @@ pub mod clamp;
 pub mod read;
 pub mod write;
 
-use crate::common::lent::Lent;
+use crate::common::lent::{Lent, ORDER};
 use crate::common::{Developed, Generator};
 use compare::guarded::{Guarded, Touching};
 use reference::calls::{self, Refusal};
@@ -19,9 +19,17 @@ pub fn library_develop(lent: &mut Lent, touching: Touching) -> Result<(), Refusa
     let mut blue = Guarded::new(&lent.blue, touching);
     let mut map = Guarded::new(&lent.map, touching);
     let mut work = Guarded::new(&lent.work, touching);
-    let (width, height, phase) = (lent.width, lent.height, lent.phase);
     let answer = compare::develop(
-        width, height, phase, &mosaic, &mut red, &mut green, &mut blue, &mut map, &mut work,
+        lent.width,
+        lent.height,
+        lent.phase,
+        lent.black,
+        &mosaic,
+        &mut red,
+        &mut green,
+        &mut blue,
+        &mut map,
+        &mut work,
     );
     assert!(mosaic.canaries_stand(), "beside the mosaic");
     assert!(map.canaries_stand(), "beside the map");
@@ -42,6 +50,7 @@ fn reference_develop(lent: &mut Lent) -> Result<(), Refusal> {
         lent.width,
         lent.height,
         lent.phase,
+        lent.black,
         &lent.mosaic,
         &mut lent.red,
         &mut lent.green,
@@ -58,8 +67,8 @@ pub fn both_develop(at: &str, lent: &Lent) -> Result<(), Refusal> {
     for touching in [Touching::Before, Touching::After] {
         let mut left = lent.clone();
         let answer = library_develop(&mut left, touching);
-        let (width, height, phase) = (lent.width, lent.height, lent.phase);
-        let at = format!("{at}: {width} x {height}, phase {phase}, touching {touching:?}");
+        let (width, height, phase, black) = (lent.width, lent.height, lent.phase, lent.black);
+        let at = format!("{at}: {width} x {height}, phase {phase}, black {black}, {touching:?}");
         assert_eq!(answer, expected_answer, "{at}");
         if answer.is_ok() {
             left.work.clone_from(&expected.work);
@@ -73,36 +82,38 @@ pub fn both_develop(at: &str, lent: &Lent) -> Result<(), Refusal> {
 
 /// Changes at random what may be wrong with a call.
 pub fn disturb(generator: &mut Generator, lent: &mut Lent) {
-    for number in 1..=4 {
-        if generator.size(0, 7) == 0 {
+    for number in ORDER.into_iter().rev().filter(|&number| number != 5) {
+        if generator.size(0, 9) == 0 {
             lent.spoil(number, generator);
         }
     }
-    if generator.size(0, 7) == 0 {
+    if generator.size(0, 9) == 0 {
         lent.height = generator.one_of(&[0, 1, 4_097, 1 << 32, usize::MAX]);
     }
     for _ in 0..generator.size(0, 2) {
         let place = generator.size(0, lent.mosaic.len() - 1);
-        lent.mosaic[place] = generator.one_of(&[1_023, 1_024, 1_025, 4_096, u16::MAX]);
+        let darkest = lent.black.saturating_sub(64).min(1_023) as u16;
+        let dark = generator.one_of(&[darkest, darkest.saturating_sub(1), 0]);
+        let high = generator.one_of(&[1_023, 1_024, 1_025, 4_096, u16::MAX]);
+        lent.mosaic[place] = generator.one_of(&[dark, high]);
     }
 }
 
-/// Develops an accepted frame by both, into buffers that hold anything.
-pub fn both_accept(at: &str, generator: &mut Generator, frame: &Frame) {
+/// Develops an accepted frame by both at a black level, into buffers that hold anything.
+pub fn both_accept(at: &str, generator: &mut Generator, frame: &Frame, black: usize) {
     let more = generator.one_of(&[0, 0, 1, 77]);
-    let lent = Lent::new(generator, frame, more);
+    let lent = Lent::new(generator, frame, black, more);
     assert_eq!(both_develop(at, &lent), Ok(()), "{at}");
 }
 
-/// The planes and the map that the library fills, from buffers that hold something else.
-pub fn library_developed(frame: &Frame) -> Developed {
-    let mut lent = Lent::new(&mut Generator::new(90), frame, 0);
-    let answer = library_develop(&mut lent, Touching::After);
-    assert_eq!(answer, Ok(()), "{frame:?}");
-    Developed {
+/// The planes and the map that the library fills at a black level, from buffers that hold something else.
+pub fn library_try_develop(frame: &Frame, black: usize) -> Result<Developed, Refusal> {
+    let mut lent = Lent::new(&mut Generator::new(90), frame, black, 0);
+    library_develop(&mut lent, Touching::After)?;
+    Ok(Developed {
         red: lent.red,
         green: lent.green,
         blue: lent.blue,
         map: lent.map,
-    }
+    })
 }

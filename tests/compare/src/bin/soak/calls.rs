@@ -4,6 +4,7 @@ use crate::both::clamp::both_clamp;
 use crate::both::read::{both_read, damage};
 use crate::both::write::{both_write, disturb_frame, file_length};
 use crate::both::{both_develop, disturb};
+use crate::common::black::{bright_enough, level};
 use crate::common::lent::Lent;
 use crate::common::{frame, set_check, written, Generator, KINDS};
 use reference::calls::returned;
@@ -37,6 +38,17 @@ impl Export {
             Export::Text => "text",
         }
     }
+
+    /// The numbers that the export returns.
+    pub fn numbers(self) -> &'static [usize] {
+        match self {
+            Export::Develop => &[0, 1, 2, 11, 3, 4, 5, 12],
+            Export::Read => &[0, 4, 6, 7, 8, 9, 10],
+            Export::Write => &[0, 1, 2, 3, 4, 5],
+            Export::Clamp => &[0, 4],
+            Export::Text => &[0],
+        }
+    }
 }
 
 /// The call of the seed at a position: its export, and the number that both implementations return.
@@ -60,10 +72,15 @@ fn some_frame(generator: &mut Generator) -> Frame {
     frame(generator, kind, greatest)
 }
 
+/// Of four frames three have no sample too dark for the black level, before half of the calls are disturbed.
 fn develop(generator: &mut Generator) -> u32 {
-    let frame = some_frame(generator);
+    let mut frame = some_frame(generator);
+    let black = level(generator);
+    if generator.size(0, 3) > 0 {
+        frame = bright_enough(frame, black);
+    }
     let more = generator.one_of(&[0, 0, 1, 77]);
-    let mut lent = Lent::new(generator, &frame, more);
+    let mut lent = Lent::new(generator, &frame, black, more);
     if generator.size(0, 1) == 0 {
         disturb(generator, &mut lent);
     }
@@ -126,7 +143,7 @@ fn text(generator: &mut Generator) -> u32 {
     for text in [bayer::text(number), bayer::decision_text(number)] {
         assert!(!text.is_empty() && text.is_ascii(), "{number}: {text}");
     }
-    assert_eq!(bayer::text(number), bayer::text(number.min(11)), "{number}");
+    assert_eq!(bayer::text(number), bayer::text(number.min(13)), "{number}");
     let same = bayer::decision_text(number.min(7));
     assert_eq!(bayer::decision_text(number), same, "code {number}");
     let version: Vec<&str> = bayer::version().split('.').collect();

@@ -1,6 +1,6 @@
 //! soak [CALLS [SEED [FROM]]]: random and damaged calls of every export, each given to the library and to the independent implementation.
-//! The first difference ends it with a status other than 0 and the words that repeat it. A call follows from the seed and its own
-//! position alone.
+//! The first difference ends it with a status other than 0 and the words that repeat it, and so does a long run in which an export never
+//! returned one of its numbers. A call follows from the seed and its own position alone.
 
 #[path = "../../../tests/both/mod.rs"]
 mod both;
@@ -14,8 +14,11 @@ use std::panic::catch_unwind;
 use std::process::ExitCode;
 use std::time::{Instant, SystemTime, UNIX_EPOCH};
 
-/// How often each export returned each number, 0 to 10.
-type Counts = [[u64; 11]; EXPORTS.len()];
+/// How often each export returned each number, 0 to 12.
+type Counts = [[u64; 13]; EXPORTS.len()];
+
+/// From so many calls on every export has returned each of its numbers.
+const MANY: u64 = 20_000;
 
 #[derive(Clone, Copy)]
 struct Soak {
@@ -76,6 +79,17 @@ fn print(counts: &Counts) {
     }
 }
 
+/// The numbers that an export can return and never did.
+fn unseen(counts: &Counts) -> Vec<String> {
+    let mut unseen = Vec::new();
+    for (export, seen) in EXPORTS.into_iter().zip(counts) {
+        for &number in export.numbers().iter().filter(|&&number| seen[number] == 0) {
+            unseen.push(format!("{} {number}", export.name()));
+        }
+    }
+    unseen
+}
+
 fn main() -> ExitCode {
     let soak = match Soak::of_arguments() {
         Ok(soak) => soak,
@@ -94,6 +108,11 @@ fn main() -> ExitCode {
         Ok(()) => {
             print(&counts);
             println!("{} calls, 0 differences, seed {}", soak.calls, soak.seed);
+            let unseen = unseen(&counts);
+            if soak.calls >= MANY && !unseen.is_empty() {
+                eprintln!("soak: never returned: {}", unseen.join(", "));
+                return ExitCode::FAILURE;
+            }
             ExitCode::SUCCESS
         }
         Err(call) => {
