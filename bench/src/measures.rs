@@ -33,6 +33,11 @@ pub const PROVED: usize = 0;
 pub const OPTIMISED: usize = 1;
 pub const PLAIN: usize = 2;
 
+/// The black levels of the proved version's runs that are set side by side. All else is at the first.
+pub const LEVELS: [usize; 2] = [0, 255];
+/// Samples from here on are accepted at each of them.
+pub const BRIGHT_ENOUGH: u16 = 191;
+
 /// A version with its planes and its map, and the speeds of its runs.
 struct Timed {
     version: Box<dyn Version>,
@@ -52,11 +57,11 @@ impl Timed {
     }
 
     /// One call, in megapixels a second.
-    fn run(&mut self, mosaic: &[u16]) {
+    fn run(&mut self, black: usize, mosaic: &[u16]) {
         let [red, green, blue] = &mut self.planes;
         let start = core_time();
         self.version
-            .develop(0, mosaic, [red, green, blue], &mut self.map);
+            .develop(0, black, mosaic, [red, green, blue], &mut self.map);
         let sites = mosaic.len() as f64;
         self.speeds.push(sites / (core_time() - start) / 1e6);
     }
@@ -81,13 +86,28 @@ pub fn develop_speeds(
         for (version, timed) in versions.iter_mut().enumerate() {
             let wanted = if version > PLAIN { literal_runs } else { runs };
             if run < wanted {
-                timed.run(&mosaic);
+                timed.run(LEVELS[0], &mosaic);
             }
         }
     }
     for timed in &versions {
         assert!(timed.planes == versions[0].planes, "{texture:?}");
         assert!(timed.map == versions[0].map, "{texture:?}");
+    }
+    versions.map(|timed| Spread::of(timed.speeds))
+}
+
+/// Megapixels a second of the proved version at each of the black levels, on a square frame whose darker samples are raised for it.
+pub fn level_speeds(texture: Texture, side: usize, runs: usize) -> [Spread; 2] {
+    let mut mosaic = texture.mosaic(side, side);
+    for sample in &mut mosaic {
+        *sample = (*sample).max(BRIGHT_ENOUGH);
+    }
+    let mut versions = LEVELS.map(|_| Timed::new::<Proved>(side, side));
+    for _ in 0..runs {
+        for (timed, black) in versions.iter_mut().zip(LEVELS) {
+            timed.run(black, &mosaic);
+        }
     }
     versions.map(|timed| Spread::of(timed.speeds))
 }
@@ -102,7 +122,7 @@ pub fn site_costs(width: usize, height: usize) -> [f64; 2] {
     let runs = ((1 << 25) / mosaic.len()).clamp(5, 200);
     for _ in 0..runs {
         for timed in &mut versions {
-            timed.run(&mosaic);
+            timed.run(LEVELS[0], &mosaic);
         }
     }
     versions.map(|timed| 1e3 / Spread::of(timed.speeds).best)
@@ -144,11 +164,11 @@ pub fn together(threads: usize, side: usize, frames: usize) -> Together {
     std::thread::scope(|scope| {
         let work = || {
             let mut timed = Timed::new::<Proved>(side, side);
-            timed.run(&mosaic);
+            timed.run(LEVELS[0], &mosaic);
             start.wait();
             let begun = core_time();
             for _ in 0..frames {
-                timed.run(&mosaic);
+                timed.run(LEVELS[0], &mosaic);
             }
             core_time() - begun
         };

@@ -8,8 +8,15 @@ pub trait Version {
     where
         Self: Sized;
 
-    /// Fills the planes red, green and blue and the decision map from a mosaic of the size.
-    fn develop(&mut self, phase: usize, mosaic: &[u16], planes: [&mut [i32]; 3], map: &mut [u8]);
+    /// Fills the planes red, green and blue, less the black level, and the decision map from a mosaic of the size.
+    fn develop(
+        &mut self,
+        phase: usize,
+        black: usize,
+        mosaic: &[u16],
+        planes: [&mut [i32]; 3],
+        map: &mut [u8],
+    );
 }
 
 /// The proved library.
@@ -32,12 +39,15 @@ impl Version for Proved {
     fn develop(
         &mut self,
         phase: usize,
+        black: usize,
         mosaic: &[u16],
         [red, green, blue]: [&mut [i32]; 3],
         map: &mut [u8],
     ) {
         let (width, height, work) = (self.width, self.height, &mut self.work);
-        let answer = compare::develop(width, height, phase, mosaic, red, green, blue, map, work);
+        let answer = compare::develop(
+            width, height, phase, black, mosaic, red, green, blue, map, work,
+        );
         assert_eq!(answer, Ok(()));
     }
 }
@@ -62,13 +72,15 @@ impl Version for Literal {
     fn develop(
         &mut self,
         phase: usize,
+        black: usize,
         mosaic: &[u16],
         [red, green, blue]: [&mut [i32]; 3],
         map: &mut [u8],
     ) {
         let (width, height, work) = (self.width, self.height, &mut self.work);
-        let answer =
-            reference::calls::develop(width, height, phase, mosaic, red, green, blue, map, work);
+        let answer = reference::calls::develop(
+            width, height, phase, black, mosaic, red, green, blue, map, work,
+        );
         assert_eq!(answer, Ok(()));
     }
 }
@@ -78,8 +90,15 @@ impl Version for Plain {
         Plain::new(width, height)
     }
 
-    fn develop(&mut self, phase: usize, mosaic: &[u16], planes: [&mut [i32]; 3], map: &mut [u8]) {
-        Plain::develop(self, phase, mosaic, planes, map);
+    fn develop(
+        &mut self,
+        phase: usize,
+        black: usize,
+        mosaic: &[u16],
+        planes: [&mut [i32]; 3],
+        map: &mut [u8],
+    ) {
+        Plain::develop(self, phase, black as i32, mosaic, planes, map);
     }
 }
 
@@ -88,7 +107,14 @@ impl Version for Optimised {
         Optimised::new(width, height)
     }
 
-    fn develop(&mut self, phase: usize, mosaic: &[u16], planes: [&mut [i32]; 3], map: &mut [u8]) {
-        Optimised::develop(self, phase, mosaic, planes, map);
+    fn develop(
+        &mut self,
+        phase: usize,
+        black: usize,
+        mosaic: &[u16],
+        planes: [&mut [i32]; 3],
+        map: &mut [u8],
+    ) {
+        Optimised::develop(self, phase, black as i32, mosaic, planes, map);
     }
 }

@@ -1,4 +1,5 @@
-//! The plain and the optimised version against the independent implementation: every entry of every plane and of the map.
+//! The plain and the optimised version against the independent implementation, at black levels from 0 to 255: every entry of every plane
+//! and of the map.
 
 #[path = "../../tests/reference/tests/common/mod.rs"]
 mod common;
@@ -6,11 +7,12 @@ mod common;
 use bench::optimised::Optimised;
 use bench::plain::Plain;
 use bench::versions::Version;
-use common::{developed, frame, frame_of_sides, Developed, Generator, Kind, KINDS};
+use common::black::{bright_enough, frame_and_level, level};
+use common::{developed_at, frame_of_sides, Developed, Generator, Kind, KINDS};
 use reference::sites::Frame;
 
-/// The planes and the map of a version, from buffers that hold something else.
-fn developed_by(version: &mut impl Version, frame: &Frame) -> Developed {
+/// The planes and the map of a version at a black level, from buffers that hold something else.
+fn developed_by(version: &mut impl Version, frame: &Frame, black: usize) -> Developed {
     let other = vec![-5_555; frame.samples.len()];
     let mut filled = Developed {
         red: other.clone(),
@@ -23,15 +25,15 @@ fn developed_by(version: &mut impl Version, frame: &Frame) -> Developed {
         &mut filled.green[..],
         &mut filled.blue[..],
     ];
-    version.develop(frame.phase, &frame.samples, lent, &mut filled.map);
+    version.develop(frame.phase, black, &frame.samples, lent, &mut filled.map);
     filled
 }
 
-fn compare<V: Version>(frame: &Frame) {
+fn compare<V: Version>(frame: &Frame, black: usize) {
     let mut version = V::new(frame.width, frame.height);
     assert!(
-        developed_by(&mut version, frame) == developed(frame),
-        "{frame:?}"
+        developed_by(&mut version, frame, black) == developed_at(frame, black),
+        "{frame:?} at {black}"
     );
 }
 
@@ -39,7 +41,8 @@ fn compare_random_frames<V: Version>(seed: u64, greatest_side: usize, of_each_ki
     let mut generator = Generator::new(seed);
     for _ in 0..of_each_kind {
         for kind in KINDS {
-            compare::<V>(&frame(&mut generator, kind, greatest_side));
+            let (frame, black) = frame_and_level(&mut generator, kind, greatest_side);
+            compare::<V>(&frame, black);
         }
     }
 }
@@ -48,9 +51,11 @@ fn compare_small_frames<V: Version>(seed: u64) {
     let mut generator = Generator::new(seed);
     for (width, height) in (2..=9).flat_map(|width| (2..=9).map(move |height| (width, height))) {
         for phase in 0..4 {
-            let mut frame = frame_of_sides(&mut generator, Kind::FewValued, width, height);
+            let black = level(&mut generator);
+            let frame = frame_of_sides(&mut generator, Kind::FewValued, width, height);
+            let mut frame = bright_enough(frame, black);
             frame.phase = phase;
-            compare::<V>(&frame);
+            compare::<V>(&frame, black);
         }
     }
 }
@@ -59,9 +64,9 @@ fn compare_with_used_buffers<V: Version>(seed: u64) {
     let mut generator = Generator::new(seed);
     let mut version = V::new(33, 18);
     for _ in 0..60 {
-        let kind = generator.one_of(&KINDS);
-        let frame = frame_of_sides(&mut generator, kind, 33, 18);
-        assert!(developed_by(&mut version, &frame) == developed(&frame));
+        let (kind, black) = (generator.one_of(&KINDS), level(&mut generator));
+        let frame = bright_enough(frame_of_sides(&mut generator, kind, 33, 18), black);
+        assert!(developed_by(&mut version, &frame, black) == developed_at(&frame, black));
     }
 }
 

@@ -4,8 +4,8 @@
 //! each by the best runs.
 
 use bench::measures::{
-    develop_speeds, file_speeds, site_costs, together, Spread, Together, OPTIMISED, PLAIN, PROVED,
-    VERSIONS,
+    develop_speeds, file_speeds, level_speeds, site_costs, together, Spread, Together,
+    BRIGHT_ENOUGH, LEVELS, OPTIMISED, PLAIN, PROVED, VERSIONS,
 };
 use bench::picture::{drawn, Chart, Group};
 use bench::textures::TEXTURES;
@@ -91,6 +91,19 @@ fn develop_tables() -> Speeds {
     speeds
 }
 
+/// What a black level costs.
+fn level_table() {
+    let speeds = TEXTURES.map(|texture| level_speeds(texture, SIDE, RUNS));
+    head(
+        &format!("MP/s of the proved version, samples from {BRIGHT_ENOUGH} on"),
+        &textures(),
+    );
+    for (level, black) in LEVELS.iter().enumerate() {
+        let cells = speeds.map(|levels| spread(levels[level], 1));
+        row(&format!("black level {black}"), &cells);
+    }
+}
+
 fn file_table() {
     head("MB/s", &["best / median / worst".to_string()]);
     let [write, read] = file_speeds(SIDE, RUNS);
@@ -172,8 +185,12 @@ fn is_fast_enough(speeds: &Speeds) -> bool {
 }
 
 fn main() -> ExitCode {
-    println!("{SIDE} x {SIDE}, phase 0, {RUNS} runs, {LITERAL_RUNS} of the literal version");
+    println!(
+        "{SIDE} x {SIDE}, phase 0, black level {}, {RUNS} runs, {LITERAL_RUNS} of the literal version",
+        LEVELS[0]
+    );
     let speeds = develop_tables();
+    level_table();
     file_table();
     let costs = growth_table();
     threads_table();

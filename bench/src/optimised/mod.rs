@@ -59,10 +59,11 @@ impl Optimised {
         }
     }
 
-    /// Fills the planes red, green and blue and the decision map from a mosaic of the size.
+    /// Fills the planes red, green and blue, less the black level, and the decision map from a mosaic of the size.
     pub fn develop(
         &mut self,
         phase: usize,
+        black: i32,
         mosaic: &[u16],
         planes: [&mut [i32]; 3],
         map: &mut [u8],
@@ -95,7 +96,8 @@ impl Optimised {
             }
             if let Some(row) = due(OUT) {
                 let lent = [&mut *red, &mut *green, &mut *blue];
-                self.output_row(sites, row, lent.map(|plane| &mut plane[sites.of_row(row)]));
+                let lent = lent.map(|plane| &mut plane[sites.of_row(row)]);
+                self.output_row(sites, row, black, lent);
             }
         }
     }

@@ -7,31 +7,37 @@ use super::Optimised;
 use crate::decisions::MEASURED;
 use crate::sites::Sites;
 
-/// Two half rows, column by column.
-fn weave<E: Copy + Into<i32>, O: Copy + Into<i32>>(even: &[E], odd: &[O], out: &mut [i32]) {
+/// Two half rows, column by column, less the black level.
+fn weave<E: Copy + Into<i32>, O: Copy + Into<i32>>(
+    even: &[E],
+    odd: &[O],
+    black: i32,
+    out: &mut [i32],
+) {
     let pairs = out.len() / 2;
     let (e, o) = (&even[..pairs], &odd[..pairs]);
     for (k, pair) in out.chunks_exact_mut(2).enumerate() {
-        pair[0] = e[k].into();
-        pair[1] = o[k].into();
+        pair[0] = e[k].into() - black;
+        pair[1] = o[k].into() - black;
     }
     if let [last] = out.chunks_exact_mut(2).into_remainder() {
-        *last = even[pairs].into();
+        *last = even[pairs].into() - black;
     }
 }
 
-/// The half row of the red and blue sites and that of the green sites.
+/// The half row of the red and blue sites and that of the green sites, less the black level.
 fn weave_sites<C: Copy + Into<i32>, G: Copy + Into<i32>>(
     chroma: &[C],
     green: &[G],
     parity: usize,
+    black: i32,
     out: &mut [i32],
 ) {
     let (chroma, green) = (&chroma[MARGIN..], &green[MARGIN..]);
     if parity == 0 {
-        weave(chroma, green, out);
+        weave(chroma, green, black, out);
     } else {
-        weave(green, chroma, out);
+        weave(green, chroma, black, out);
     }
 }
 
@@ -133,8 +139,14 @@ impl Optimised {
         self.other.reflect(row, parity);
     }
 
-    /// The three numbers of each site of a row.
-    pub(super) fn output_row(&mut self, sites: Sites, row: isize, planes: [&mut [i32]; 3]) {
+    /// The three numbers of each site of a row, less the black level.
+    pub(super) fn output_row(
+        &mut self,
+        sites: Sites,
+        row: isize,
+        black: i32,
+        planes: [&mut [i32]; 3],
+    ) {
         self.fill_sites(sites, row);
         let parity = sites.first_chroma(row);
         let [red, green, blue] = planes;
@@ -145,9 +157,9 @@ impl Optimised {
         };
         let [chroma, greens] = [parity, 1 - parity].map(|parity| self.samples.half(row, parity));
         let [green_there, other_there, own_missing, other_missing] = &self.filled;
-        weave_sites(chroma, own_missing, parity, own);
-        weave_sites(green_there, greens, parity, green);
-        weave_sites(other_there, other_missing, parity, other);
+        weave_sites(chroma, own_missing, parity, black, own);
+        weave_sites(green_there, greens, parity, black, green);
+        weave_sites(other_there, other_missing, parity, black, other);
     }
 
     /// The colours that a row does not measure, in half rows.

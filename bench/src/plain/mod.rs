@@ -40,10 +40,11 @@ impl Plain {
         }
     }
 
-    /// Fills the planes red, green and blue and the decision map from a mosaic of the size.
+    /// Fills the planes red, green and blue, less the black level, and the decision map from a mosaic of the size.
     pub fn develop(
         &mut self,
         phase: usize,
+        black: i32,
         mosaic: &[u16],
         planes: [&mut [i32]; 3],
         map: &mut [u8],
@@ -61,7 +62,7 @@ impl Plain {
         self.form_differences(sites, map);
         self.form_own(sites);
         self.form_other(sites);
-        self.output_rows(sites, planes);
+        self.output_rows(sites, black, planes);
     }
 
     fn take_samples(&mut self, mosaic: &[u16]) {
@@ -116,7 +117,7 @@ impl Plain {
         self.other.reflect();
     }
 
-    fn output_rows(&self, sites: Sites, [red, green, blue]: [&mut [i32]; 3]) {
+    fn output_rows(&self, sites: Sites, black: i32, [red, green, blue]: [&mut [i32]; 3]) {
         for row in 0..self.height as isize {
             let columns = sites.of_row(row);
             let red = &mut red[columns.clone()];
@@ -127,15 +128,16 @@ impl Plain {
             } else {
                 [blue, green, red]
             };
-            self.output_row(sites, row, planes);
+            self.output_row(sites, row, black, planes);
         }
     }
 
-    /// The planes of the measured colour, of green and of the other colour, in a row.
+    /// The planes of the measured colour, of green and of the other colour, in a row, less the black level.
     fn output_row(
         &self,
         sites: Sites,
         row: isize,
+        black: i32,
         [own_out, green_out, other_out]: [&mut [i32]; 3],
     ) {
         let z = self.samples.inner(row);
@@ -145,17 +147,17 @@ impl Plain {
         let (other_below, other_above) = (self.other.inner(row + 1), self.other.inner(row - 1));
         for j in sites.chroma(row) {
             let green = 4 * z[j] + own[j + 1];
-            own_out[j] = z[j];
-            green_out[j] = output(green);
-            other_out[j] = output(green - other[j + 1]);
+            own_out[j] = z[j] - black;
+            green_out[j] = output(green) - black;
+            other_out[j] = output(green - other[j + 1]) - black;
         }
         for j in sites.greens(row) {
             // the colour that the row measures stands east and west, the other one south and north
             let own_near = [own[j + 2], own[j], other_below[j], other_above[j]];
             let other_near = [other[j + 2], other[j], own_below[j], own_above[j]];
-            own_out[j] = output(4 * z[j] - weighted_mean(own_near, gradients.at(j)));
-            green_out[j] = z[j];
-            other_out[j] = output(4 * z[j] - weighted_mean(other_near, gradients.at(j)));
+            own_out[j] = output(4 * z[j] - weighted_mean(own_near, gradients.at(j))) - black;
+            green_out[j] = z[j] - black;
+            other_out[j] = output(4 * z[j] - weighted_mean(other_near, gradients.at(j))) - black;
         }
     }
 }
