@@ -10,6 +10,9 @@ use std::io::{self, Read};
 /// Red, green and blue.
 pub type Planes = [Vec<i32>; 3];
 
+/// Document 02, A2: the programs use b = 0. A frame file holds no black level.
+const BLACK: usize = 0;
+
 /// One byte more than the longest frame file has: a longer file need not be read further to be refused.
 const ENOUGH: u64 = 1 + Shape {
     width: *SIDES.end(),
@@ -83,6 +86,7 @@ fn filled(frame: &Frame) -> Result<(Planes, Vec<u8>), Refusal> {
     let mut work = vec![0; shape.work_length()];
     bayer::develop(
         shape,
+        BLACK,
         &frame.samples,
         &mut red,
         &mut green,
