@@ -4,14 +4,13 @@ use mathlib.Core.Bool.{Bool, true, false, not}
 use Prim.Native.Nat.{ℕ, _*_, _≤_, _<_}
 use lib.Dec.{leb}
 use borrow.Author.Tests.{not-true, not-false, ne-eqb}
-use Rattle.toolkit.specs.Tests.{holds, leb-yes, leb-no, eqb-yes}
+use Rattle.toolkit.specs.Tests.{leb-yes, leb-no, eqb-yes}
 use Rattle.frame.specs.declared.Shape.{Shape}
 use Rattle.frame.specs.declared.Refusal.the-variants.{Size, Phase, MosaicLength, BlackLevel}
 use Rattle.frame.specs.declared.Answer.the-variants.{Done, Refused}
 use Rattle.frame.specs.Sites.{side-allowed, phase-allowed}
 use Rattle.frame.specs.Calls.{highest-black, black-answer}
 use Rattle.admission.specs.ShapeTest.{shape-allowed, shape-answer, count-answer}
-use Rattle.frame.specs.Admission.{side-high}
 
 -- ---- a side
 
@@ -26,9 +25,6 @@ side-large n l h = rw (leb-yes {m = 2} {n = n} l, leb-no {m = n} {n = 4096} h)
 pub side-between : (n : ℕ) → 2 ≤ n → n ≤ 4096 → true ≡ side-allowed n
 unfolding side-allowed
 side-between n l h = rw (leb-yes {m = 2} {n = n} l, leb-yes {m = n} {n = 4096} h)
-
-pub side-at-most : {t : Bool} (n : ℕ) → t ≡ side-allowed n → not t ≡ false → n ≤ 4096
-side-at-most {t} n e h = side-high (holds (sym e ∙ not-false t h))
 
 -- ---- a shape
 
