@@ -131,7 +131,7 @@ fn corner_means(
     }
 }
 
-// The final differences of row i, to its record.
+// The final differences of row i, to its record. They are read for sites at most 2 rows away.
 pub fn enhance_line(
     tops: &[i32],
     shape: Shape,
@@ -152,8 +152,8 @@ pub fn enhance_line(
     let h = shape.height;
     let c = positions::first_chroma(shape.phase, i);
     let count = positions::half_count(w, c);
-    let below = positions::reflected(h, i + 2) * w;
-    let above = positions::reflected_less(h, i, 2) * w;
+    let below = positions::row_below(h, i, 2, 2) * w;
+    let above = positions::row_above(h, i, 2, 2) * w;
     half_rows::north(tops, work, w, i, base, 0, count, n);
     half_rows::copy(green, i * w, count, l);
     half_rows::mirror(l, w, c, 1);
@@ -172,7 +172,7 @@ pub fn enhance_line(
     fuse_row(l, m, count, work, records::final_at(w, i, base));
 }
 
-// The differences of the other colour of row i, to its record.
+// The differences of the other colour of row i, to its record. They are read for sites at most 1 row away.
 pub fn diagonal_line(
     tops: &[i32],
     shape: Shape,
@@ -197,13 +197,13 @@ pub fn diagonal_line(
     half_rows::north(tops, work, w, i, base, 0, count, n);
     half_rows::copy(
         work,
-        records::final_at(w, positions::reflected_less(h, i, 1), base),
+        records::final_at(w, positions::row_above(h, i, 1, 1), base),
         w - count,
         up,
     );
     half_rows::copy(
         work,
-        records::final_at(w, positions::reflected(h, i + 1), base),
+        records::final_at(w, positions::row_below(h, i, 1, 1), base),
         w - count,
         down,
     );

@@ -56,13 +56,13 @@ pub fn row_at(i: usize, base: usize) -> usize
     positions::ring_place(i, base) * 4112
 }
 
-// Where row x − 4 + p stands, reflected.
+// Where row x − 4 + p stands, reflected. The gradients of row x − 2 are read for sites at most 10 rows away, so row x lies at most 12 away.
 fn near_row(h: usize, x: usize, p: usize, base: usize) -> usize
     requires { ⌜ (2 ≤ h) × (h ≤ 4096) × (x ≤ 4098) × (p < 7) ⌝ }
     requires { ⌜ Near-rows h x base ⌝ }
     ensures { λ r. ⌜ r ≡ near-entry h x p ⌝ }
 {
-    row_at(positions::reflected_less(h, x + p, 4), base)
+    row_at(positions::row_near(h, x, p, 4, 12), base)
 }
 
 // Where the rows x − 4 to x + 2 stand, reflected.

@@ -37,7 +37,7 @@ pub struct Places {
     pub above: Differences,
 }
 
-// The places of row i; base is a row at place 0 of the records' ring.
+// The places of row i; base is a row at place 0 of the records' ring. Row i is the site's own.
 pub fn row_places(shape: Shape, i: usize, base: usize) -> Places
     requires { ⌜ (Row-of shape i) × (Round base (i - 4) (i + 4)) ⌝ }
     ensures { λ r. ⌜ Placed shape i r ⌝ }
@@ -46,8 +46,8 @@ pub fn row_places(shape: Shape, i: usize, base: usize) -> Places
     let h = shape.height;
     let start = positions::first_chroma(shape.phase, i);
     let count = positions::half_count(w, start);
-    let down = positions::reflected(h, i + 1);
-    let up = positions::reflected_less(h, i, 1);
+    let down = positions::row_below(h, i, 1, 0);
+    let up = positions::row_above(h, i, 1, 0);
     let here = Differences {
         finals: records::final_at(w, i, base),
         others: records::other_at(w, i, base),

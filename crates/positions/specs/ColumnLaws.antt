@@ -1,6 +1,7 @@
 -- Laws of the reflection as the code forms it, and of the columns of a local row. Assumes nothing.
 use mathlib.Core.Path.{_≡_, sym, _∙_, ap}
 use Prim.Native.Nat.{ℕ, _+_, _*_, _-_, _%_, _<_, _≤_}
+use native.Mathlib.Nat.{mod-eq-of-lt}
 use native.Mathlib.Omega.{arith}
 use lib.IntN.{ℤ, pos, natAbs, subℕ}
 use Rattle.toolkit.specs.Tests.{leb-yes, leb-no}
@@ -15,6 +16,12 @@ fold-low n x w h = sym (reflect-folded n (pos x) w ∙ rw (leb-yes {m = x % (2 *
 pub fold-high : (n x : ℕ) → 2 ≤ n → n ≤ x % (2 * (n - 1)) → 2 * (n - 1) - x % (2 * (n - 1)) ≡ reflect n (pos x)
 unfolding folded
 fold-high n x w h = sym (reflect-folded n (pos x) w ∙ rw (leb-no {m = x % (2 * (n - 1))} {n = n - 1} (omega arith)))
+
+-- not past a second end
+pub fold-once : (n x : ℕ) → 2 ≤ n → n ≤ x → x < 2 * (n - 1) → 2 * (n - 1) - x ≡ reflect n (pos x)
+fold-once n x w h l =
+    let same : x % (2 * (n - 1)) ≡ x = mod-eq-of-lt l in
+    ap (λ (m : ℕ). 2 * (n - 1) - m) (sym same) ∙ fold-high n x w (omega (arith, same))
 
 -- only the distance from 0 counts
 pub reflect-distance : (n : ℕ) (x y : ℤ) → 2 ≤ n → natAbs x ≡ natAbs y → reflect n x ≡ reflect n y

@@ -1,10 +1,24 @@
 // Positions: reflection outside a line, the columns of a half row, and the places of rows in a ring.
 ghost use mathlib.Core.Path.{_≡_};
-ghost use Prim.Native.Nat.{_+_, _-_, _<_, _≤_};
+ghost use Prim.Native.Nat.{_+_, _*_, _-_, _<_, _≤_};
 ghost use lib.IntN.{pos, subℕ};
 ghost use Rattle.frame.specs.Sites.{reflect};
+ghost use Rattle.frame.specs.InnerSites.{margin, Inner};
 ghost use Rattle.positions.specs.HalfRows.{chroma-start, half-count};
 ghost use Rattle.positions.specs.Rings.{place-in-ring, Round};
+
+// Position x of a line of n, reflected, where it lies farther past the end than the line is long.
+fn folded(n: usize, x: usize) -> usize
+    requires { ⌜ (2 ≤ n) × (n ≤ 4096) × (2 * (n - 1) ≤ x) ⌝ }
+    ensures { λ r. ⌜ (r ≡ reflect n (pos x)) × (r < n) ⌝ }
+{
+    let period = 2 * (n - 1);
+    let m = x % period;
+    if m < n {
+        return m;
+    }
+    period - m
+}
 
 // Position x of a line of n, reflected.
 pub fn reflected(n: usize, x: usize) -> usize
@@ -15,11 +29,10 @@ pub fn reflected(n: usize, x: usize) -> usize
         return x;
     }
     let period = 2 * (n - 1);
-    let m = x % period;
-    if m < n {
-        return m;
+    if x < period {
+        return period - x;
     }
-    period - m
+    folded(n, x)
 }
 
 // Position x − d of a line of n, reflected.
@@ -31,6 +44,47 @@ pub fn reflected_less(n: usize, x: usize, d: usize) -> usize
         return reflected(n, x - d);
     }
     reflected(n, d - x)
+}
+
+// Row i + down − up of h rows, reflected, where row i lies near an edge.
+pub fn edge_row(h: usize, i: usize, down: usize, up: usize, off: usize) -> usize
+    requires { ⌜ (2 ≤ h) × (h ≤ 4096) × (i ≤ 4104) × (down + off ≤ margin) × (¬ (Inner h off i)) ⌝ }
+    ensures { λ r. ⌜ (r ≡ reflect h (subℕ (i + down) up)) × (r < h) ⌝ }
+{
+    reflected_less(h, i + down, up)
+}
+
+// Row i + down − up of h rows, reflected. Row i is read for a site at most off rows away: where all rows that are read for such a site lie
+// in the frame, it is found by adding and subtracting alone.
+pub fn row_near(h: usize, i: usize, down: usize, up: usize, off: usize) -> usize
+    requires { ⌜ (2 ≤ h) × (h ≤ 4096) × (i ≤ 4104) × (down + off ≤ margin) × (up + off ≤ margin) ⌝ }
+    ensures { λ r. ⌜ (r ≡ reflect h (subℕ (i + down) up)) × (r < h) ⌝ }
+    ensures { λ r. ⌜ (Inner h off i → r ≡ i + down - up) ⌝ }
+{
+    if 20 <= i + off {
+        if i + 20 < h + off {
+            return i + down - up;
+        }
+    }
+    edge_row(h, i, down, up, off)
+}
+
+// Row i − d.
+pub fn row_above(h: usize, i: usize, d: usize, off: usize) -> usize
+    requires { ⌜ (2 ≤ h) × (h ≤ 4096) × (i ≤ 4104) × (d + off ≤ margin) ⌝ }
+    ensures { λ r. ⌜ (r ≡ reflect h (subℕ i d)) × (r < h) ⌝ }
+    ensures { λ r. ⌜ (Inner h off i → r ≡ i - d) ⌝ }
+{
+    row_near(h, i, 0, d, off)
+}
+
+// Row i + d.
+pub fn row_below(h: usize, i: usize, d: usize, off: usize) -> usize
+    requires { ⌜ (2 ≤ h) × (h ≤ 4096) × (i ≤ 4104) × (d + off ≤ margin) ⌝ }
+    ensures { λ r. ⌜ (r ≡ reflect h (pos (i + d))) × (r < h) ⌝ }
+    ensures { λ r. ⌜ (Inner h off i → r ≡ i + d) ⌝ }
+{
+    row_near(h, i, d, 0, off)
 }
 
 // The first red or blue column of row i.

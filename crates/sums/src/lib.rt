@@ -107,7 +107,7 @@ fn add_both(
     }
 }
 
-// One step of the three sums: t columns and t rows of the same colour further.
+// One step of the three sums: t columns and t rows of the same colour further. What is picked in row i is read at most 4 rows away.
 fn add_step(
     diagonals: &[i32],
     verticals: &[i32],
@@ -131,8 +131,8 @@ fn add_step(
 {
     let w = shape.width;
     let h = shape.height;
-    let up = positions::reflected_less(h, i, 2 * t) * w;
-    let down = positions::reflected(h, i + 2 * t) * w;
+    let up = positions::row_above(h, i, 2 * t, 4) * w;
+    let down = positions::row_below(h, i, 2 * t, 4) * w;
     add_columns(rh, t, fh, count);
     add_rows(rv, verticals, up, down, fv, count);
     add_both(rd, t, diagonals, up, down, fd, count);

@@ -34,7 +34,7 @@ final-at-requires : tie.Need-final-at-requires
 final-at-requires c κs =
     let lent = c .before .before .before .before .before .before .before .pre .0 .holds .lent in
     let near = near-north _ _ 1 (lent .taken .tall) (lent .inside) in
-    near-record lent _ (omega (arith, c .reflected-less .ensures)) (omega (arith, c .reflected-less .ensures)) (c .reflected-less .ensures .1)
+    near-record lent _ (omega (arith, c .row-above .ensures .0)) (omega (arith, c .row-above .ensures .0)) (c .row-above .ensures .0 .1)
 
 sub-copy : tie.Need-sub-copy
 sub-copy c =
@@ -49,7 +49,7 @@ copy-requires c κs =
     let lent = start .pre .0 .holds .lent in
     let first = count .before .first-chroma .ensures .0 in
     let sites = count .half-count .ensures .0 in (
-      rest-room lent first sites _ (place .before .reflected-less .ensures .1) (place .final-at .ensures),
+      rest-room lent first sites _ (place .before .row-above .ensures .0 .1) (place .final-at .ensures),
       work-most _ _ _ _ _ lent,
       rest-few lent first sites,
       start .pre .1 .1,
@@ -59,7 +59,7 @@ final-at-requires-2 : tie.Need-final-at-requires-2
 final-at-requires-2 c κs =
     let lent = counted (c .before .before .before .before) .before .before .pre .0 .holds .lent in
     let near = near-south _ _ 1 (lent .taken .tall) (lent .inside) in
-    near-record lent _ (omega (arith, c .reflected .ensures)) (omega (arith, c .reflected .ensures)) (c .reflected .ensures .1)
+    near-record lent _ (omega (arith, c .row-below .ensures .0)) (omega (arith, c .row-below .ensures .0)) (c .row-below .ensures .0 .1)
 
 sub-copy-2 : tie.Need-sub-copy-2
 sub-copy-2 c =
@@ -74,7 +74,7 @@ copy-requires-2 c κs =
     let lent = start .pre .0 .holds .lent in
     let first = count .before .first-chroma .ensures .0 in
     let sites = count .half-count .ensures .0 in (
-      rest-room lent first sites _ (place .before .reflected .ensures .1) (place .final-at2 .ensures),
+      rest-room lent first sites _ (place .before .row-below .ensures .0 .1) (place .final-at2 .ensures),
       work-most _ _ _ _ _ lent,
       rest-few lent first sites,
       start .pre .1 .2,
@@ -111,7 +111,7 @@ corner-means-requires c κs =
     let count = counted up in
     let start = count .before .before in
     let row = diagonal-row (start .pre .0 .holds) (count .before .first-chroma .ensures .0) (count .half-count .ensures .0)
-    (up .before .before .before .north .ensures) (up .before .reflected-less .ensures .0) (down .before .reflected .ensures .0)
+    (up .before .before .before .north .ensures) (up .before .row-above .ensures .0 .0) (down .before .row-below .ensures .0 .0)
     (row-one-off (up .final-at .ensures) (down .before .before .before .copy .ensures) (mirror .before .before .mirror .ensures))
     (row-one-off (down .final-at2 .ensures) (mirror .before .before .before .before .copy2 .ensures) (mirror .mirror2 .ensures)) in (
       (
@@ -146,7 +146,7 @@ returns c =
       record {
         row = λ zs reads. others-stored
             (diagonal-row reads (count .before .first-chroma .ensures .0) (count .half-count .ensures .0) (up .before .before .before .north .ensures)
-            (up .before .reflected-less .ensures .0) (down .before .reflected .ensures .0)
+            (up .before .row-above .ensures .0 .0) (down .before .row-below .ensures .0 .0)
             (row-one-off (up .final-at .ensures) (down .before .before .before .copy .ensures) (mirror .before .before .mirror .ensures))
             (row-one-off (down .final-at2 .ensures) (mirror .before .before .before .before .copy2 .ensures) (mirror .mirror2 .ensures)))
             _ _ (records .before .record-at .ensures .0) (records .south-at .ensures)
@@ -169,7 +169,6 @@ diagonal-line-spec = tie.close (tie.spec
     final-at-requires
     sub-copy
     copy-requires
-    (λ c. search needs)
     (λ c κs. search needs)
     final-at-requires-2
     sub-copy-2

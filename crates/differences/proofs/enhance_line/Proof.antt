@@ -9,10 +9,10 @@ use Rattle.differences.proofs.enhance_line.Statement.{statement}
 use Rattle.differences.proofs.enhance_line.Tie as tie
 
 -- the calls before a call
-abbrev counted : tie.After-reflected-less → tie.After-half-count
+abbrev counted : tie.After-row-above → tie.After-half-count
 counted c = c .before .before
 
-abbrev placed : tie.After-north → tie.After-reflected-less
+abbrev placed : tie.After-north → tie.After-row-above
 placed c = c .before .before .before
 
 abbrev formed : tie.After-mirror → tie.After-north
@@ -24,12 +24,12 @@ mirrored c = c .before .before .before .before .before .before .before
 mul-below : tie.Need-mul-below
 mul-below c =
     let lent = c .before .before .before .pre .0 .holds .lent in
-    omega (arith, plane-row _ _ 0 (lent .taken) (c .reflected .ensures .1) (omega arith))
+    omega (arith, plane-row _ _ 0 (lent .taken) (c .row-below .ensures .0 .1) (omega arith))
 
 mul-above : tie.Need-mul-above
 mul-above c =
     let lent = c .before .before .before .before .pre .0 .holds .lent in
-    omega (arith, plane-row _ _ 0 (lent .taken) (c .reflected-less .ensures .1) (omega arith))
+    omega (arith, plane-row _ _ 0 (lent .taken) (c .row-above .ensures .0 .1) (omega arith))
 
 north-requires : tie.Need-north-requires
 north-requires c κs =
@@ -72,8 +72,8 @@ straight-means-requires c κs =
     let reads = start .pre .0 .holds in
     let first = count .before .first-chroma .ensures .0 in
     let sites = count .half-count .ensures .0 in
-    let below = place .before .reflected .ensures in
-    let above = place .reflected-less .ensures in
+    let below = place .before .row-below .ensures .0 in
+    let above = place .row-above .ensures .0 in
     let row = enhance-row reads first sites (below .0) (above .0) (formed mirror .north .ensures) (mirror .before .before .copy .ensures)
     (mirror .mirror .ensures) in (
       (row-room reads first sites _ (below .1), row-room reads first sites _ (above .1), green-most reads first sites, start .pre .1 .2),
@@ -95,7 +95,7 @@ fuse-row-requires c κs =
     let reads = count .before .before .pre .0 .holds in
     let first = count .before .first-chroma .ensures .0 in
     let sites = count .half-count .ensures .0 in
-    let row = enhance-row reads first sites (place .before .reflected .ensures .0) (place .reflected-less .ensures .0)
+    let row = enhance-row reads first sites (place .before .row-below .ensures .0 .0) (place .row-above .ensures .0 .0)
     (formed mirror .north .ensures) (mirror .before .before .copy .ensures) (mirror .mirror .ensures) in (
       (sites-few (reads .lent) first sites, final-room (reads .lent) first sites (c .final-at .ensures), work-most _ _ _ _ _ (reads .lent)),
       (
@@ -113,8 +113,8 @@ returns c =
     let count = counted place in (
       record {
         row = λ zs reads. finals-stored
-            (enhance-row reads (count .before .first-chroma .ensures .0) (count .half-count .ensures .0) (place .before .reflected .ensures .0)
-            (place .reflected-less .ensures .0) (formed mirror .north .ensures) (mirror .before .before .copy .ensures) (mirror .mirror .ensures))
+            (enhance-row reads (count .before .first-chroma .ensures .0) (count .half-count .ensures .0) (place .before .row-below .ensures .0 .0)
+            (place .row-above .ensures .0 .0) (formed mirror .north .ensures) (mirror .before .before .copy .ensures) (mirror .mirror .ensures))
             _ _ (records .before .record-at .ensures .0) (records .south-at .ensures)
             _ (means .straight-means .ensures) (c .before .before .final-at .ensures) (c .before .fuse-row .ensures);
       },
@@ -125,7 +125,6 @@ pub enhance-line-spec : {M : Type 1} → statement M
 enhance-line-spec = tie.close (tie.spec
     (λ c κs. search needs)
     (λ c κs. search needs)
-    (λ c. search needs)
     (λ c κs. search needs)
     mul-below
     (λ c κs. search needs)

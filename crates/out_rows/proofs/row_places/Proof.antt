@@ -1,6 +1,6 @@
 -- `out_rows::row_places` meets its contract. Assumes nothing.
 use borrow.Author.Needs.{needs}
-use mathlib.Core.Path.{refl, _∙_, ap}
+use mathlib.Core.Path.{_≡_, refl, _∙_, ap}
 use Prim.Native.Nat.{ℕ, _+_, _*_}
 use Rattle.positions.specs.HalfRowLaws.{count-high}
 use Rattle.positions.specs.Rings.{place-in-ring}
@@ -15,14 +15,11 @@ first-chroma-requires c κs = search needs
 half-count-requires : tie.Need-half-count-requires
 half-count-requires c κs = search needs
 
-add-reflected : tie.Need-add-reflected
-add-reflected c = search needs
+row-below-requires : tie.Need-row-below-requires
+row-below-requires c κs = search needs
 
-reflected-requires : tie.Need-reflected-requires
-reflected-requires c κs = search needs
-
-reflected-less-requires : tie.Need-reflected-less-requires
-reflected-less-requires c κs = search needs
+row-above-requires : tie.Need-row-above-requires
+row-above-requires c κs = search needs
 
 final-at-requires : tie.Need-final-at-requires
 final-at-requires c κs = search needs
@@ -31,16 +28,28 @@ other-at-requires : tie.Need-other-at-requires
 other-at-requires c κs = search needs
 
 final-at-requires-2 : tie.Need-final-at-requires-2
-final-at-requires-2 c κs = south-record (c .before .before .before .before .before .before .pre .0) (c .before .before .before .before .before .before .pre .1) (c .before .before .before .reflected .ensures)
+final-at-requires-2 c κs =
+    let found = c .before .before .before in
+    let start = found .before .before .before in
+    south-record (start .pre .0) (start .pre .1) (found .row-below .ensures .0)
 
 other-at-requires-2 : tie.Need-other-at-requires-2
-other-at-requires-2 c κs = south-record (c .before .before .before .before .before .before .before .pre .0) (c .before .before .before .before .before .before .before .pre .1) (c .before .before .before .before .reflected .ensures)
+other-at-requires-2 c κs =
+    let found = c .before .before .before .before in
+    let start = found .before .before .before in
+    south-record (start .pre .0) (start .pre .1) (found .row-below .ensures .0)
 
 final-at-requires-3 : tie.Need-final-at-requires-3
-final-at-requires-3 c κs = north-record (c .before .before .before .before .before .before .before .before .pre .0) (c .before .before .before .before .before .before .before .before .pre .1) (c .before .before .before .before .reflected-less .ensures)
+final-at-requires-3 c κs =
+    let found = c .before .before .before .before in
+    let start = found .before .before .before .before in
+    north-record (start .pre .0) (start .pre .1) (found .row-above .ensures .0)
 
 other-at-requires-3 : tie.Need-other-at-requires-3
-other-at-requires-3 c κs = north-record (c .before .before .before .before .before .before .before .before .before .pre .0) (c .before .before .before .before .before .before .before .before .before .pre .1) (c .before .before .before .before .before .reflected-less .ensures)
+other-at-requires-3 c κs =
+    let found = c .before .before .before .before .before in
+    let start = found .before .before .before .before in
+    north-record (start .pre .0) (start .pre .1) (found .row-above .ensures .0)
 
 sub-t13 : tie.Need-sub-t13
 sub-t13 c =
@@ -62,6 +71,10 @@ south-at-requires c κs = search needs
 
 add-t18 : tie.Need-add-t18
 add-t18 c = search needs
+
+-- a part of the record of the row that a number stands for
+part-of : (w part : ℕ) {r q : ℕ} → r ≡ q → place-in-ring r * record-size w + part ≡ place-in-ring q * record-size w + part
+part-of w part = ap (λ (r : ℕ). place-in-ring r * record-size w + part)
 
 returns : tie.Need-returns
 returns c =
@@ -86,10 +99,10 @@ returns c =
       south-is = ap (λ (x : ℕ). x + count .half-count .result) (south .south-at .ensures);
       finals-is = finals .final-at .ensures;
       others-is = others .other-at .ensures;
-      finals-south-is = below-finals .final-at2 .ensures ∙ ap (λ (r : ℕ). place-in-ring r * record-size w + final-part w) (down .reflected .ensures .0);
-      finals-north-is = above-finals .final-at3 .ensures ∙ ap (λ (r : ℕ). place-in-ring r * record-size w + final-part w) (up .reflected-less .ensures .0);
-      others-south-is = below-others .other-at2 .ensures ∙ ap (λ (r : ℕ). place-in-ring r * record-size w + other-part w) (down .reflected .ensures .0);
-      others-north-is = above-others .other-at3 .ensures ∙ ap (λ (r : ℕ). place-in-ring r * record-size w + other-part w) (up .reflected-less .ensures .0);
+      finals-south-is = below-finals .final-at2 .ensures ∙ part-of w (final-part w) (down .row-below .ensures .0 .0);
+      finals-north-is = above-finals .final-at3 .ensures ∙ part-of w (final-part w) (up .row-above .ensures .0 .0);
+      others-south-is = below-others .other-at2 .ensures ∙ part-of w (other-part w) (down .row-below .ensures .0 .0);
+      others-north-is = above-others .other-at3 .ensures ∙ part-of w (other-part w) (up .row-above .ensures .0 .0);
     }
 
 pub row-places-spec : {M : Type 1} → statement M
@@ -98,9 +111,8 @@ row-places-spec =
     (tie.spec
     first-chroma-requires
     half-count-requires
-    add-reflected
-    reflected-requires
-    reflected-less-requires
+    row-below-requires
+    row-above-requires
     final-at-requires
     other-at-requires
     final-at-requires-2

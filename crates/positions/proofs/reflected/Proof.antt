@@ -1,9 +1,7 @@
--- `positions::reflected` meets its contract. One period, then forth or back (`fold-low`, `fold-high`). Assumes nothing.
+-- `positions::reflected` meets its contract: in the line, past one end (`fold-once`), or farther. Assumes nothing.
 use mathlib.Core.Path.{sym}
-use Prim.Native.Nat.{_*_, _-_}
-use native.Mathlib.Nat.{mod-lt}
 use Rattle.frame.specs.Reflection.{reflect-inside}
-use Rattle.positions.specs.ColumnLaws.{fold-low, fold-high}
+use Rattle.positions.specs.ColumnLaws.{fold-once}
 use native.Mathlib.Omega.{arith}
 use borrow.Author.Needs.{needs}
 use Rattle.positions.proofs.reflected.Statement.{statement}
@@ -18,20 +16,17 @@ sub-period c = search needs
 mul-period : tie.Need-mul-period
 mul-period c = search needs
 
-rem-m : tie.Need-rem-m
-rem-m c = search needs
+sub-result : tie.Need-sub-result
+sub-result c = search needs
 
 returns-2 : tie.Need-returns-2
-returns-2 c = (fold-low _ _ (c .before .before .pre .0) (c .if2 .taken), c .if2 .taken)
+returns-2 c = (fold-once _ _ (c .before .before .pre .0) (c .before .if1 .left) (c .if2 .taken), omega arith)
 
-sub-result : tie.Need-sub-result
-sub-result c = omega (arith, mod-lt (c .before .before .args .x) {m = 2 * (c .before .before .args .n - 1)} (omega arith))
+folded-requires : tie.Need-folded-requires
+folded-requires c κs = search needs
 
 returns-3 : tie.Need-returns-3
-returns-3 c =
-    let a = c .before .before .args in
-    (fold-high _ _ (c .before .before .pre .0) (c .if2 .left), omega (arith, mod-lt (a .x) {m = 2 * (a .n - 1)} (omega arith)))
+returns-3 c = c .folded .ensures
 
 pub reflected-spec : {M : Type 1} → statement M
-reflected-spec =
-    tie.close (tie.spec returns sub-period mul-period rem-m returns-2 sub-result returns-3)
+reflected-spec = tie.close (tie.spec returns sub-period mul-period sub-result returns-2 folded-requires returns-3)
