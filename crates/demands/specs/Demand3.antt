@@ -22,7 +22,7 @@ use Rattle.demands.specs.Demand2.{planes-left, decisions-left}
 
 module _ {f : Frame} {b : ℕ} (call : Developed f b) where
   -- the number that a call leaves is the method's
-  left-is : (c : Colour) (i j : ℕ) → number-left call c i j ≡ number-at f b c i j
+  pub left-is : (c : Colour) (i j : ℕ) → number-left call c i j ≡ number-at f b c i j
   unfolding number-at
   left-is c i j =
       ap (λ (l : List ℤ). getD l (i * f .width + j) (pos 0))
@@ -32,7 +32,7 @@ module _ {f : Frame} {b : ℕ} (call : Developed f b) where
   map-is : call .left .map ≡ decision-map f
   map-is = decisions-left f b (call .before) (call .answer) (call .left) (call .leaves) (call .succeeds)
 
-  entry-is : (i j : ℕ) → entry-left call i j ≡ entry-at f i j
+  pub entry-is : (i j : ℕ) → entry-left call i j ≡ entry-at f i j
   unfolding entry-at
   entry-is i j = ap (λ (l : List ℕ). getD l (i * f .width + j) 0) map-is
 

@@ -1,0 +1,9 @@
+pub mod Distances
+pub mod FarSites
+pub mod StepDistances
+pub mod Surroundings
+pub mod Stages
+pub mod OwnColumns
+pub mod RowReads
+pub mod HalfRowReads
+pub mod InnerSites
