@@ -22,11 +22,10 @@ fn random_frames_of_every_kind() {
     }
 }
 
-#[test]
-fn every_size_from_2_to_17_in_every_phase() {
-    let seed = 81;
+/// Frames of each width and height, of any kind, in every phase.
+fn every_phase(seed: u64, sides: impl Iterator<Item = (usize, usize)>) {
     let mut generator = Generator::new(seed);
-    for (width, height) in (2..=17).flat_map(|width| (2..=17).map(move |height| (width, height))) {
+    for (width, height) in sides {
         for phase in 0..4 {
             let (kind, black) = (generator.one_of(&KINDS), level(&mut generator));
             let frame = frame_of_sides(&mut generator, kind, width, height);
@@ -36,6 +35,19 @@ fn every_size_from_2_to_17_in_every_phase() {
             both_accept(&at, &mut generator, &frame, black);
         }
     }
+}
+
+#[test]
+fn every_size_from_2_to_17_in_every_phase() {
+    let sides = (2..=17).flat_map(|width| (2..=17).map(move |height| (width, height)));
+    every_phase(81, sides);
+}
+
+/// 41 is the least side that has a site 20 from both edges: row numbers are formed in both ways in one frame.
+#[test]
+fn sides_about_41_in_every_phase() {
+    let sides = (37..=44).flat_map(|side| [(side, 41), (41, side), (7, side)]);
+    every_phase(101, sides);
 }
 
 #[test]
