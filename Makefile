@@ -2,6 +2,7 @@
 #               most 2,048 bytes and 1,024 samples (the first time the program's crates are proved, which takes minutes)
 # make test     proves every crate and passes the tests; its last line is 'N passed, M failed'
 # make bench    times the proved library beside the versions of bench/, in some minutes, and writes docs/performance.svg
+# make profile  proves and builds the library, and prints the calls and the share of the time of each function in develop, on TEXTURE
 # make tool     builds the command-line tool, build/tool/release/bayer-tool
 # make turned   develops the built-in glaze before and after the list CHANGES, by the library and by the old way
 # make soak     CALLS random and damaged calls of every export, against the independent implementation; SEED and FROM repeat them
@@ -9,7 +10,7 @@
 # make install  puts the libraries, the header and the pkg-config file under PREFIX; `make lib` comes first where it is due
 PREFIX ?= /usr/local
 CHANGES ?= transpose left-right
-.PHONY: run test bench tool turned soak lib install
+.PHONY: run test bench profile tool turned soak lib install
 
 FRAME ?= examples/glaze.bayr
 
@@ -23,6 +24,9 @@ test:
 
 bench: lib
 	@CARGO_TARGET_DIR=build/bench cargo run --quiet --release --manifest-path bench/Cargo.toml --bin speed -- docs/performance.svg
+
+profile: lib
+	@bench/profile/run $(TEXTURE)
 
 tool: build/lib/libbayer.so
 	@CARGO_TARGET_DIR=build/tool cargo build --quiet --release --manifest-path tools/bayer-tool/Cargo.toml
