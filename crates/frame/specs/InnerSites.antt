@@ -16,9 +16,9 @@ pub record Inner (n off x : ℕ) : Type 0 where
   pub before : margin ≤ x + off
   pub behind : x + margin < n + off
 
--- a position that is read for an inner one is inner, by as much less as it lies off
-pub inner-near : {n off x : ℕ} (y d : ℕ) → Inner n off x → x ≤ y + d → y ≤ x + d → Inner n (off + d) y
-inner-near y d i a b = record { before = omega (arith, i .before); behind = omega (arith, i .behind) }
+-- a position that is read d away, or less, from an inner one is inner, by so much less
+pub inner-near : {n off x : ℕ} (far y d : ℕ) → off + d ≤ far → Inner n off x → x ≤ y + d → y ≤ x + d → Inner n far y
+inner-near far y d h i a b = record { before = omega (arith, i .before); behind = omega (arith, i .behind) }
 
 -- a row or column that is found by adding and subtracting is the one that is read
 pub inner-reflect : {n off x : ℕ} (down up : ℕ) → 2 ≤ n → Inner n off x → down + off ≤ margin → up + off ≤ margin

@@ -17,7 +17,7 @@ use Rattle.positions.proofs.edge_row.Reads as edge-row-contract
 use Rattle.toolkit.specs.Differences.{as-difference}
 use Rattle.toolkit.specs.Orders.{to-naturals}
 use Rattle.frame.specs.Sites.{Frame, Colour, around}
-use Rattle.frame.specs.InnerSites.{Inner, read-as-written}
+use Rattle.frame.specs.InnerSites.{Inner, inner-near, read-as-written}
 use Rattle.method.specs.Gradients.{mosaic}
 use Rattle.method.specs.Planes.{less-black}
 use Rattle.method.specs.Comparison.{number-at, entry-at}
@@ -30,10 +30,7 @@ use Rattle.inner_sites.specs.Stages.{output-alike, entry-alike}
 
 -- a position that is read for an inner one, off away or less
 inner-off : {n i : ℕ} (off x : ℕ) → Inner n 0 i → Near off i x → Inner n off x
-inner-off off x inner near = record {
-  before = omega (arith, inner .before, near .not-before);
-  behind = omega (arith, inner .behind, near .not-behind);
-}
+inner-off off x inner near = inner-near off x off (omega arith) inner (near .not-before) (near .not-behind)
 
 module _ (f : Frame) (i j : ℕ) (far : Far-from-edges f i j) where
   inner-row : Inner (f .height) 0 i
@@ -88,11 +85,11 @@ module _ (f f′ : Frame) (i j i′ j′ : ℕ) (far : Far-from-edges f i j) (fa
     there = every-step-as-written f′ i′ j′ far′ .samples
 
     -- what is the same at all sites of the window is the same where it is read, r rows and c columns off
-    read-alike : {X : Type 0} (q q′ : ℕ → ℕ → X)
+    window-read : {X : Type 0} (q q′ : ℕ → ℕ → X)
         → ((x y x′ y′ : ℕ) → x + i′ ≡ x′ + i → y + j′ ≡ y′ + j → Near reading-distance i x → Near reading-distance j y → q x y ≡ q′ x′ y′)
         → around (f .height) (f .width) q i j r c ≡ around (f′ .height) (f′ .width) q′ i′ j′ r c
     unfolding around
-    read-alike q q′ e =
+    window-read q q′ e =
         let a = here r c (omega arith) (omega arith) in
         let b = there r c (omega arith) (omega arith) in
         let row = written-near i _ r (a .0) in
@@ -105,8 +102,8 @@ module _ (f f′ : Frame) (i j i′ j′ : ℕ) (far : Far-from-edges f i j) (fa
   window-alike = record {
     inside = inner-site f i j far;
     inside′ = inner-site f′ i′ j′ far′;
-    samples = λ r c hr hc. read-alike r c hr hc _ _ (λ x y x′ y′ a b n o. ap pos (same .samples x y x′ y′ a b n o));
-    colours = λ r c hr hc. read-alike r c hr hc _ _ (same .colours);
+    samples = λ r c hr hc. window-read r c hr hc _ _ (λ x y x′ y′ a b n o. ap pos (same .samples x y x′ y′ a b n o));
+    colours = λ r c hr hc. window-read r c hr hc _ _ (same .colours);
   }
 
   pub nothing-farther-counts : (b : ℕ) (c : Colour) → number-at f b c i j ≡ number-at f′ b c i′ j′

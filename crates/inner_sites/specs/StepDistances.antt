@@ -9,11 +9,7 @@ use Rattle.frame.specs.InnerSites.{margin}
 use Rattle.method.specs.Gradients.{exchanged, six-tap, six-tap-pair, eastbound, east-gradient, west-gradient, gradients}
 use Rattle.method.specs.Green.{Direction, horizontal, vertical, diagonal, horizontal-estimate, estimate, sum-about, column-sum, horizontal-sum, vertical-sum, diagonal-sum, second-pass, reach}
 use Rattle.method.specs.Planes.{straight, diagonally, corners}
-use Rattle.inner_sites.specs.Distances.{Reads, gradient-distance, second-pass-distance, enhancement-distance, corner-distance, neighbour-distance, differences-off, finals-off, greens-off, trials-off, reading-distance}
-
--- alike to d rows and columns off
-abbrev Alike-to : {X : Type 0} → ℕ → Around X → Around X → Type 0
-Alike-to d N N′ = (r c : ℤ) → natAbs r ≤ d → natAbs c ≤ d → N r c ≡ N′ r c
+use Rattle.inner_sites.specs.Distances.{Alike-to, Reads, gradient-distance, second-pass-distance, enhancement-distance, corner-distance, neighbour-distance, differences-off, finals-off, greens-off, trials-off, reading-distance}
 
 -- ---- the gradients and the estimates of green
 

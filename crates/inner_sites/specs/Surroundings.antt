@@ -32,7 +32,7 @@ module _ {n off x : ℕ} (w : 2 ≤ n) (i : Inner n off x) (c : ℤ) (d : ℕ) (
   moved-inner : Inner n (off + d) (reflect n (pos x +ℤ c))
   moved-inner =
       let close = written-near x (reflect n (pos x +ℤ c)) c written in
-      inner-near _ d i (omega arith) (omega arith)
+      inner-near (off + d) _ d (omega arith) i (omega arith) (omega arith)
 
   -- what is read farther off from there is read off from the first
   moved-twice : (e : ℤ) → reflect n (pos (reflect n (pos x +ℤ c)) +ℤ e) ≡ reflect n (pos x +ℤ (c +ℤ e))
@@ -119,8 +119,8 @@ alike-nearer near far h same m m′ i j i′ j′ a = same m m′ i j i′ j′ 
     nearer s = record {
       tall = s .tall;
       wide = s .wide;
-      row = record { before = omega (arith, s .row .before); behind = omega (arith, s .row .behind) };
-      column = record { before = omega (arith, s .column .before); behind = omega (arith, s .column .behind) };
+      row = inner-near far _ 0 (omega arith) (s .row) (omega arith) (omega arith);
+      column = inner-near far _ 0 (omega arith) (s .column) (omega arith) (omega arith);
     }
 
 -- the site's own sample and colour

@@ -1,12 +1,11 @@
 -- Laws of the reflection as the code forms it, and of the columns of a local row. Assumes nothing.
 use mathlib.Core.Path.{_≡_, sym, _∙_, ap}
 use Prim.Native.Nat.{ℕ, _+_, _*_, _-_, _%_, _<_, _≤_}
-use native.Mathlib.Nat.{mod-eq-of-lt}
 use native.Mathlib.Omega.{arith}
 use lib.IntN.{ℤ, pos, natAbs, subℕ}
 use Rattle.toolkit.specs.Tests.{leb-yes, leb-no}
 use Rattle.frame.specs.Sites.{reflect}
-use Rattle.frame.specs.Reflection.{folded, reflect-folded, reflect-inside, reflect-lt, abs-sub}
+use Rattle.frame.specs.Reflection.{folded, folded-falling, reflect-folded, reflect-inside, reflect-lt, abs-sub}
 use Rattle.positions.specs.Columns.{column-at}
 
 pub fold-low : (n x : ℕ) → 2 ≤ n → x % (2 * (n - 1)) < n → x % (2 * (n - 1)) ≡ reflect n (pos x)
@@ -19,9 +18,7 @@ fold-high n x w h = sym (reflect-folded n (pos x) w ∙ rw (leb-no {m = x % (2 *
 
 -- not past a second end
 pub fold-once : (n x : ℕ) → 2 ≤ n → n ≤ x → x < 2 * (n - 1) → 2 * (n - 1) - x ≡ reflect n (pos x)
-fold-once n x w h l =
-    let same : x % (2 * (n - 1)) ≡ x = mod-eq-of-lt l in
-    ap (λ (m : ℕ). 2 * (n - 1) - m) (sym same) ∙ fold-high n x w (omega (arith, same))
+fold-once n x w h l = sym (reflect-folded n (pos x) w ∙ folded-falling n x w (omega arith) (omega arith))
 
 -- only the distance from 0 counts
 pub reflect-distance : (n : ℕ) (x y : ℤ) → 2 ≤ n → natAbs x ≡ natAbs y → reflect n x ≡ reflect n y
