@@ -105,7 +105,8 @@ def turned(text, foreign, aliases, own_fields, comment):
             if before.endswith("."):
                 head = re.search(r"([\w'′-]+)\.$", before)
                 head = head.group(1) if head else ""
-                return spelled(name) if name in own_fields or head in aliases else name
+                of_type = head[:1].isupper() and head not in foreign
+                return spelled(name) if name in own_fields or head in aliases or of_type else name
             return name if name in foreign else spelled(name)
 
         return TOKEN.sub(one, code)

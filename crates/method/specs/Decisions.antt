@@ -13,8 +13,8 @@ use Rattle.method.specs.SiteChanges.{act_direction, act_outcome}
 abbrev swap_decision : Decision → Decision
 swap_decision measured = measured
 swap_decision Decision.equal = Decision.equal
-swap_decision Decision.strong-across = Decision.strong-down
-swap_decision Decision.strong-down = Decision.strong-across
+swap_decision Decision.strong_across = Decision.strong_down
+swap_decision Decision.strong_down = Decision.strong_across
 swap_decision weak_across = weak_down
 swap_decision weak_down = weak_across
 swap_decision weak_to_mean = weak_to_mean
@@ -51,8 +51,8 @@ code_changed left_right d = refl
 code_changed top_bottom d = refl
 code_changed transposing measured = refl
 code_changed transposing Decision.equal = refl
-code_changed transposing Decision.strong-across = refl
-code_changed transposing Decision.strong-down = refl
+code_changed transposing Decision.strong_across = refl
+code_changed transposing Decision.strong_down = refl
 code_changed transposing weak_across = refl
 code_changed transposing weak_down = refl
 code_changed transposing weak_to_mean = refl
@@ -71,8 +71,8 @@ exchanged_twice n = by_test (eqb n 2) _ (λ a. rw (eqb_eq n 2 a))
 pub code_most : (d : Decision) → decision_code d ≤ 6
 code_most measured = omega arith
 code_most Decision.equal = omega arith
-code_most Decision.strong-across = omega arith
-code_most Decision.strong-down = omega arith
+code_most Decision.strong_across = omega arith
+code_most Decision.strong_down = omega arith
 code_most weak_across = omega arith
 code_most weak_down = omega arith
 code_most weak_to_mean = omega arith
