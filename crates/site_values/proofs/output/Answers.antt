@@ -6,18 +6,14 @@ use Rattle.toolkit.specs.BoundRules.{vals}
 use Rattle.toolkit.specs.Shifts.{b_shift}
 use Rattle.method.specs.Planes.{final_round}
 use Rattle.site_values.specs.Roundings.{quarter}
-use Rattle.site_values.proofs.output.Statement.{statement}
-use Rattle.site_values.proofs.output.Tie as tie
+use Rattle.site_values.proofs.output.Goals as goal
 
-add_result : tie.Need-overflow-add-result
-add_result c = fits (search vals depth 30) tt
+pub overflow_add-result : goal.overflow_add-result
+overflow_add-result c = fits (search vals depth 30) tt
 
-sub_result : tie.Need-overflow-sub-result
-sub_result c = fits (search (b_shift, vals) depth 30) tt
+pub overflow_sub-result : goal.overflow_sub-result
+overflow_sub-result c = fits (search (b_shift, vals) depth 30) tt
 
-returns : tie.Need-returns
+pub returns : goal.returns
 unfolding final_round
 returns c = val (search (b_shift, vals) depth 30) tt ∙ ap (λ (r : ℤ). r -ℤ c.args.black) (quarter c.args.q)
-
-pub output_spec : {M : Type 1} → statement M
-output_spec = tie.close (tie.spec add_result sub_result returns)
