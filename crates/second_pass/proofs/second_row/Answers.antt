@@ -5,6 +5,7 @@ use lib.Dec.{ltb}
 use Prim.Native.Nat.{ℕ, ◌+◌, ◌≤◌}
 use lib.IntN.{pos, nat_abs}
 use lib.ListN.{get_or, length-set}
+use borrow.Author.Rules.{rules}
 use Rattle.toolkit.specs.Bounds.{fits, val}
 use Rattle.toolkit.specs.BoundRules.{vals}
 use Rattle.toolkit.specs.Entries.{entries_none, entries_next, entries_as}
@@ -43,15 +44,15 @@ loop-k-preserved c =
       omega arith,
       simp length-set (omega arith),
       wrote_next c.loop-k.invariant.2 (omega arith)
-          (as_read c.struct_told-1.given.0.1 ∙ (c.pick-picked.ensures.0
+          (as_read (search rules) ∙ (c.pick-picked.ensures.0
           ∙ picked_read (val (search vals depth 30) tt) (val (search vals depth 30) tt)
-          (as_read c.pick-arg-in-loop-k-2-1.given)
-          (as_read c.pick-arg-in-loop-k-3-1.given)
-          (as_read c.pick-arg-in-loop-k-4-1.given) (as_read c.pick-arg-in-loop-k-5-1.given))),
+          (as_read (search rules))
+          (as_read (search rules))
+          (as_read (search rules)) (as_read (search rules)))),
       entries_next c.loop-k.invariant.3 (omega arith) refl
           (c.pick-picked.ensures.1 ∙ ap (λ (n : ℕ). cond (ltb first 4) first n)
           (picked_read (val (search vals depth 30) tt) (val (search vals depth 30) tt)
-          (as_read c.pick-arg-in-loop-k-2-1.given) refl refl refl)),
+          (as_read (search rules)) refl refl refl)),
     )
 
 pub returns : goal.returns
