@@ -1,6 +1,5 @@
 -- `stage_turns::enhance_turn` meets its contract: too early, the row that is due, or all rows done. Assumes nothing.
 use native.Mathlib.Omega.{arith}
-use borrow.Author.Rules.{rules}
 use Rattle.records.specs.TurnLaws.{turn_early, turn_late}
 use Rattle.stage_turns.specs.RowsDue.{enhance_reads}
 use Rattle.stage_turns.specs.Turned.{enhance_turned}

@@ -1,6 +1,5 @@
 -- `stage_turns::first_turn` meets its contract: too early, the row that is due, or all rows done. Assumes nothing.
 use native.Mathlib.Omega.{arith}
-use borrow.Author.Rules.{rules}
 use Rattle.stage_turns.specs.RowsDue.{first_lent}
 use Rattle.stage_turns.specs.Turned.{first_turned, first_early, first_late}
 use Rattle.stage_turns.proofs.first_turn.Goals as goal
@@ -13,7 +12,7 @@ first_line-requires c =
     let start = c.requires in
     record {
       some_samples = record { samples = start.some_samples.samples; holds = first_lent start.some_samples.holds c.if-t-lt4.false c.if-i-shape.true };
-      diagonals_len = start.diagonals_len;
+      diagonals_len = start.red_len;
       first_room = start.first_room;
     }
 

@@ -1,7 +1,6 @@
 -- `stage_turns::load_turn` meets its contract: the row, or all rows done. Assumes nothing.
 use mathlib.Core.Path.{refl}
 use native.Mathlib.Omega.{arith}
-use borrow.Author.Rules.{rules}
 use Rattle.stage_turns.proofs.load_turn.Goals as goal
 
 pub returns-then-t-shape : goal.returns-then-t-shape

@@ -1,6 +1,5 @@
 -- `stage_turns::second_turn` meets its contract: too early, the row that is due, or all rows done. Assumes nothing.
 use native.Mathlib.Omega.{arith}
-use borrow.Author.Rules.{rules}
 use Rattle.stage_turns.specs.RowsDue.{second_lent}
 use Rattle.stage_turns.specs.Turned.{second_turned, second_early, second_late}
 use Rattle.stage_turns.proofs.second_turn.Goals as goal
