@@ -1,5 +1,4 @@
 -- `frame_text::compose` meets its contract. Assumes nothing.
-use borrow.Author.Rules.{rules}
 use Rattle.frame_text.specs.Reads.{long_printed, short_printed}
 use Rattle.frame_text.specs.TextLeft.{text_short, text_put}
 use Rattle.frame_text.proofs.compose.Goals as goal

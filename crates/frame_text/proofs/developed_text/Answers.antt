@@ -2,7 +2,6 @@
 use Rattle.text.specs.Put.{put_as}
 use Rattle.frame_text.specs.Developed.{Left, refused_text, wide, red_length, green_length, blue_length, all_clamped, done_text}
 use native.Mathlib.Omega.{arith}
-use borrow.Author.Rules.{rules}
 use Rattle.frame_text.proofs.developed_text.Goals as goal
 
 pub planes_text-requires : goal.planes_text-requires

@@ -1,6 +1,5 @@
 -- `frame_text::file_text` meets its contract. Assumes nothing.
 use mathlib.Core.Path.{sym, ◌∙◌}
-use Prim.Native.Nat.{◌*◌, ◌≤◌}
 use native.Mathlib.Omega.{arith}
 use Rattle.text.specs.Put.{put_as}
 use Rattle.frame_text.specs.Buffers.{parts_lent}
