@@ -7,17 +7,17 @@ use borrow.Fn.Kinds.{ended_of}
 use denote.Triple.Clauses.{AtExit}
 use Rattle.frame.specs.Sites.{frame}
 use Rattle.develop.specs.contracts.develop as develop
-use Rattle.develop.proofs.develop.Kinds as develop-kinds
-use Rattle.develop.proofs.develop.Reads as develop-contract
+use Rattle.develop.proofs.develop.Kinds as develop_kinds
+use Rattle.develop.proofs.develop.Reads as develop_contract
 use Rattle.clamp.specs.contracts.clamp as clamp
-use Rattle.clamp.proofs.clamp.Kinds as clamp-kinds
-use Rattle.clamp.proofs.clamp.Reads as clamp-contract
+use Rattle.clamp.proofs.clamp.Kinds as clamp_kinds
+use Rattle.clamp.proofs.clamp.Reads as clamp_contract
 use Rattle.reader.specs.contracts.read as read
-use Rattle.reader.proofs.read.Kinds as read-kinds
-use Rattle.reader.proofs.read.Reads as read-contract
+use Rattle.reader.proofs.read.Kinds as read_kinds
+use Rattle.reader.proofs.read.Reads as read_contract
 use Rattle.writer.specs.contracts.write as write
-use Rattle.writer.proofs.write.Kinds as write-kinds
-use Rattle.writer.proofs.write.Reads as write-contract
+use Rattle.writer.proofs.write.Kinds as write_kinds
+use Rattle.writer.proofs.write.Reads as write_contract
 use Rattle.demands.specs.WhatCallsLeave.{buffers, DevelopLeaves, ClampLeaves, ReadLeaves, WriteLeaves}
 
 -- clamp(plane, clamped)
