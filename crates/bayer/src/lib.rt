@@ -1,4 +1,4 @@
-// The published calls under plain names, for C and Rust. Each answers every input.
+// The published calls under plain names, for Rust, and by bayer_c for C. Each answers every input.
 ghost use Rattle.std.specs.Prelude.{◌≡◌, length};
 ghost use Rattle.frame.specs.Sites.{frame as frame_of, Colour};
 ghost use Rattle.frame.specs.Calls.{number_and_place, develop_answer, clamp_answer, clamped as clamped_plane, after};
@@ -76,8 +76,7 @@ fn export_read(answer: ReadAnswer) -> ReadReturned
 }
 
 // Reads a frame file into `samples`, which has W.H entries or more; those past W.H stay.
-#[unsafe(no_mangle)]
-pub extern "C" fn bayer_read(file: &[u8], samples: &mut [u16]) -> ReadReturned
+pub fn bayer_read(file: &[u8], samples: &mut [u16]) -> ReadReturned
     ensures answer { ReadExported (read_answer file.now (length samples.old)) result }
     ensures left { samples.new ≡ samples_after_read file.now samples.old }
 {
@@ -85,8 +84,7 @@ pub extern "C" fn bayer_read(file: &[u8], samples: &mut [u16]) -> ReadReturned
 }
 
 // Writes a frame into `file`, which has exactly the file's length.
-#[unsafe(no_mangle)]
-pub extern "C" fn bayer_write(shape: Shape, mosaic: &[u16], file: &mut [u8]) -> Returned
+pub fn bayer_write(shape: Shape, mosaic: &[u16], file: &mut [u8]) -> Returned
     ensures answer { Exported (write_answer (frame_of shape mosaic.now) (length file.old)) result }
     ensures left { file.new ≡ file_after_write (frame_of shape mosaic.now) file.old }
 {
@@ -94,8 +92,7 @@ pub extern "C" fn bayer_write(shape: Shape, mosaic: &[u16], file: &mut [u8]) -> 
 }
 
 // Fills `clamped` with the numbers of `plane`, each held to 0..1,023; both have the same length.
-#[unsafe(no_mangle)]
-pub extern "C" fn bayer_clamp(plane: &[i32], clamped: &mut [i32]) -> Returned
+pub fn bayer_clamp(plane: &[i32], clamped: &mut [i32]) -> Returned
     ensures answer { Exported (clamp_answer (length plane.now) (length clamped.old)) result }
     ensures left { clamped.new ≡ after (clamp_answer (length plane.now) (length clamped.old))
         (clamped_plane plane.now) clamped.old }
@@ -105,8 +102,7 @@ pub extern "C" fn bayer_clamp(plane: &[i32], clamped: &mut [i32]) -> Returned
 
 // Develops a frame at a black level into three planes and the decision map, of W.H entries each, with a work buffer of 4·W·H entries or
 // more, which may hold anything after success.
-#[unsafe(no_mangle)]
-pub extern "C" fn bayer_develop(
+pub fn bayer_develop(
     shape: Shape,
     black: usize,
     mosaic: &[u16],
