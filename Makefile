@@ -15,9 +15,8 @@ CHANGES ?= transpose left-right
 FRAME ?= examples/glaze.bayr
 
 run:
-	@mkdir -p build
-	@rt check print_frame > build/run.log 2>&1 || { cat build/run.log >&2; exit 1; }
-	@target/bin/print_frame < "$(FRAME)"
+	@mkdir -p build && : > build/run.log
+	@{ cd crates/print_frame && rt run 2> ../../build/run.log; } < "$(FRAME)" || { cat build/run.log >&2; exit 1; }
 
 test:
 	@tests/run
@@ -39,7 +38,7 @@ soak: build/lib/libbayer.so
 	    "$(CALLS)" "$(SEED)" "$(FROM)"
 
 lib:
-	@rt staticlib bayer
+	@cd crates/bayer_c && rt lib
 	@library/build
 
 build/lib/libbayer.so: include/bayer.h $(wildcard library/* crates/*/src/*.rt)

@@ -108,3 +108,5 @@ module _ (f : Frame) (b : ℕ) where
     leaves = called f b before;
     succeeds = accepted before allowed _ _ (called f b before);
   }
+
+-- ---- end

@@ -1,0 +1,76 @@
+// The exports for C: bayer's published calls under the same names, each with the same clauses.
+#![tactic(auto)]
+
+ghost use Rattle.std.specs.Prelude.{◌≡◌, length};
+ghost use Rattle.frame.specs.Sites.{frame as frame_of, Colour};
+ghost use Rattle.frame.specs.Calls.{develop_answer, clamp_answer, clamped as clamped_plane, after};
+ghost use Rattle.method.specs.Green.{decision_map};
+ghost use Rattle.method.specs.Planes.{plane};
+ghost use Rattle.develop.specs.LentBuffers.{lengths, KeptOnRefusal};
+ghost use Rattle.frame_file.specs.FrameFile.{write_answer, file_after_write, read_answer, samples_after_read};
+ghost use Rattle.bayer.specs.Exports.{Exported, ReadExported};
+
+use bayer::{ReadReturned, Returned};
+use frame::Shape;
+
+// Reads a frame file into `samples`, which has W.H entries or more; those past W.H stay.
+#[unsafe(no_mangle)]
+pub extern "C" fn bayer_read(file: &[u8], samples: &mut [u16]) -> ReadReturned
+    ensures answer { ReadExported (read_answer file.now (length samples.old)) result }
+    ensures left { samples.new ≡ samples_after_read file.now samples.old }
+{
+    bayer::bayer_read(file, samples)
+}
+
+// Writes a frame into `file`, which has exactly the file's length.
+#[unsafe(no_mangle)]
+pub extern "C" fn bayer_write(shape: Shape, mosaic: &[u16], file: &mut [u8]) -> Returned
+    ensures answer { Exported (write_answer (frame_of shape mosaic.now) (length file.old)) result }
+    ensures left { file.new ≡ file_after_write (frame_of shape mosaic.now) file.old }
+{
+    bayer::bayer_write(shape, mosaic, file)
+}
+
+// Fills `clamped` with the numbers of `plane`, each held to 0..1,023; both have the same length.
+#[unsafe(no_mangle)]
+pub extern "C" fn bayer_clamp(plane: &[i32], clamped: &mut [i32]) -> Returned
+    ensures answer { Exported (clamp_answer (length plane.now) (length clamped.old)) result }
+    ensures left { clamped.new ≡ after (clamp_answer (length plane.now) (length clamped.old))
+        (clamped_plane plane.now) clamped.old }
+{
+    bayer::bayer_clamp(plane, clamped)
+}
+
+// Develops a frame at a black level into three planes and the decision map, of W.H entries each, with a work buffer of 4·W·H entries or
+// more, which may hold anything after success.
+#[unsafe(no_mangle)]
+pub extern "C" fn bayer_develop(
+    shape: Shape,
+    black: usize,
+    mosaic: &[u16],
+    red: &mut [i32],
+    green: &mut [i32],
+    blue: &mut [i32],
+    map: &mut [u8],
+    work: &mut [i32],
+) -> Returned
+    ensures answer { Exported (develop_answer (frame_of shape mosaic.now) black
+        (lengths red.old green.old blue.old map.old work.old)) result }
+    ensures red_left { red.new ≡ after (develop_answer (frame_of shape mosaic.now) black
+        (lengths red.old green.old blue.old map.old work.old))
+        (plane (frame_of shape mosaic.now) black Colour.red) red.old }
+    ensures green_left { green.new ≡ after (develop_answer (frame_of shape mosaic.now) black
+        (lengths red.old green.old blue.old map.old work.old))
+        (plane (frame_of shape mosaic.now) black Colour.green) green.old }
+    ensures blue_left { blue.new ≡ after (develop_answer (frame_of shape mosaic.now) black
+        (lengths red.old green.old blue.old map.old work.old))
+        (plane (frame_of shape mosaic.now) black Colour.blue) blue.old }
+    ensures map_left { map.new ≡ after (develop_answer (frame_of shape mosaic.now) black
+        (lengths red.old green.old blue.old map.old work.old))
+        (decision_map (frame_of shape mosaic.now)) map.old }
+    ensures work_left { KeptOnRefusal (develop_answer (frame_of shape mosaic.now) black
+        (lengths red.old green.old blue.old map.old work.old))
+        work.old work.new }
+{
+    bayer::bayer_develop(shape, black, mosaic, red, green, blue, map, work)
+}
