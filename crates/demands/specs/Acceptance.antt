@@ -108,5 +108,3 @@ module _ (f : Frame) (b : ℕ) where
     leaves = called f b before;
     succeeds = accepted before allowed _ _ (called f b before);
   }
-
--- ---- end

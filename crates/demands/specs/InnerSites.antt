@@ -16,5 +16,3 @@ nothing_farther_counts f f' b first last i j i' j' far far' same = (
   λ c. left_is first c i j ∙ inner.nothing_farther_counts f f' i j i' j' far far' same b c ∙ sym (left_is last c i' j'),
   entry_is first i j ∙ inner.nothing_farther_decides f f' i j i' j' far far' same ∙ sym (entry_is last i' j'),
 )
-
--- ---- end

@@ -47,5 +47,3 @@ accepted_exactly_when_written file bytes room f = (
   accepted_is_written file bytes room f,
   λ w. ap (λ (l : List ℕ). reading l room) w.written ∙ written_is_accepted f w.admitted room w.enough,
 )
-
--- ---- end

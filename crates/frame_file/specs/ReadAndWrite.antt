@@ -94,5 +94,3 @@ read_yields_what_write_makes file bytes before f = (
       ((accepted_exactly_when_written file bytes (length before) f).1
       (record { admitted = w.0; written = w.1; enough = m.1 })),
 )
-
--- ---- end

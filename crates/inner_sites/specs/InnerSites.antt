@@ -132,5 +132,3 @@ rows_by_adding κs a r s learnt i inner near = learnt.1 (inner_off _ _ inner nea
 pub never_reflected : (κs : Lfts 0) (a : ArgsD edge_row.signature κs) → edge_row_contract.Asked κs a
     → (i : ℕ) → Inner a.0 0 i → ¬ (Near a.1.1.1.1.0 i a.1.0)
 never_reflected κs a asked i inner near = asked.4 (inner_off _ _ inner near)
-
--- ---- end

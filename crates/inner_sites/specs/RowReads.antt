@@ -112,5 +112,3 @@ module _ {W j : ℕ} (inner : Inner W trials_off j) where
           cell 3 (j + 8) (omega arith),
           cell 4 (j + 8) (omega arith),
         )
-
--- ---- end

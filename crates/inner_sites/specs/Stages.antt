@@ -148,5 +148,3 @@ module _ (m m' : Mosaic) (i j i' j' : ℕ) (a : Alike m m' 0 i j i' j') where
         colour_alike 0 (omega arith) m m' i j i' j' a,
         from_differences (from_finals (from_greens decision_alike)) m m' i j i' j' a,
       ) refl
-
--- ---- end
