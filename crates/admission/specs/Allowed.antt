@@ -6,7 +6,7 @@ use Rattle.frame.specs.declared.Shape.{Shape}
 use Rattle.frame.specs.declared.Refusal.TheVariants.{Size, Phase, MosaicLength}
 use Rattle.frame.specs.declared.Answer.TheVariants.{Done}
 use Rattle.frame.specs.Sites.{side_allowed, phase_allowed}
-use Rattle.frame.specs.Admission.{tested_done, side_high}
+use Rattle.frame.proofs.Admission.{tested_done, side_high}
 use Rattle.admission.specs.ShapeTest.{shape_answer, count_answer}
 
 pub record Allowed (shape : Shape) : Type 0 where

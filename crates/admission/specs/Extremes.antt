@@ -7,7 +7,7 @@ use Rattle.frame.specs.declared.Refusal.TheVariants.{Sample, UnderBlack}
 use Rattle.frame.specs.declared.Answer.TheVariants.{Done, Refused}
 use Rattle.frame.specs.Sites.{highest_sample}
 use Rattle.frame.specs.Calls.{samples_answer, most_under, under_answer}
-use Rattle.frame.specs.Admission.{samples_done, done_samples, done_under, first_fails}
+use Rattle.frame.proofs.Admission.{samples_done, done_samples, done_under, first_fails}
 
 unfoldable pub highest_of : List ℕ → ℕ
 highest_of [] = 0

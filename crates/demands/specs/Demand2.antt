@@ -9,7 +9,7 @@ use Rattle.frame.specs.declared.ReadAnswer.{ReadAnswer}
 use Rattle.frame.specs.declared.ReadAnswer.TheVariants as Read
 use Rattle.frame.specs.Sites.{Frame, Colour, red, green, blue}
 use Rattle.frame.specs.Calls.{success, returned, returned_by_read}
-use Rattle.frame.specs.Admission.{refused_not_done, returned_done}
+use Rattle.frame.proofs.Admission.{refused_not_done, returned_done}
 use Rattle.method.specs.Gradients.{mosaic}
 use Rattle.method.specs.Green.{decision_entry, decision_map}
 use Rattle.method.specs.Planes.{output, less_black, plane}

@@ -13,7 +13,7 @@ use Rattle.frame.specs.declared.Answer.{Answer}
 use Rattle.frame.specs.declared.Answer.TheVariants.{Done, Refused}
 use Rattle.frame.specs.Sites.{frame}
 use Rattle.frame.specs.Calls.{Lengths, tested, and_then, samples_answer, black_answer, under_answer, lengths_fit, lengths_allowed, develop_answer}
-use Rattle.frame.specs.Admission.{and_then_done, eleven_in_figures}
+use Rattle.frame.proofs.Admission.{and_then_done, eleven_in_figures}
 use Rattle.admission.specs.ShapeTest.{shape_answer, count_answer}
 use Rattle.admission.specs.InOrder.{in_order}
 use Rattle.admission.specs.Allowed.{count_passes}

@@ -6,7 +6,7 @@ use Rattle.toolkit.specs.Tests.{is_true, leb_le, eqb_eq, and_true}
 use Rattle.frame.specs.declared.Answer.TheVariants.{Done}
 use Rattle.frame.specs.Sites.{Frame, highest_sample}
 use Rattle.frame.specs.Calls.{highest_black, Lengths, lengths_fit, lengths_allowed, develop_answer, Admitted}
-use Rattle.frame.specs.Admission.{side_low, side_high, phase_high, sample_high, done_admitted}
+use Rattle.frame.proofs.Admission.{side_low, side_high, phase_high, sample_high, done_admitted}
 use Rattle.positions.specs.Taken.{Taken}
 
 pub record Ready (f : Frame) (b : ℕ) (l : Lengths) : Type 0 where

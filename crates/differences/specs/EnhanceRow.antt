@@ -7,7 +7,7 @@ use Rattle.toolkit.specs.Orders.{to_naturals}
 use Rattle.toolkit.specs.Entries.{Entries}
 use Rattle.toolkit.specs.Writes.{Wrote, wrote_as}
 use Rattle.frame.specs.Sites.{Frame, reflect, around}
-use Rattle.frame.specs.Reflection.{reflect_here}
+use Rattle.frame.proofs.Reflection.{reflect_here}
 use Rattle.method.specs.Gradients.{mosaic}
 use Rattle.method.specs.Four.{directions, sizes}
 use Rattle.method.specs.Planes.{weighted_mean, straight, mean_two_off, fused, final_difference}

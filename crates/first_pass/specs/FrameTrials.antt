@@ -4,7 +4,7 @@ use Rattle.std.proofs.Math.Path.{refl}
 use Rattle.std.proofs.Common.{sym, ◌∙◌, ap, ap₂, arith}
 use Rattle.std.proofs.Math.IntN.{pos, sub_ℕ}
 use Rattle.frame.specs.Sites.{Frame, sample, around}
-use Rattle.frame.specs.Reflection.{reflect_here}
+use Rattle.frame.proofs.Reflection.{reflect_here}
 use Rattle.method.specs.Gradients.{mosaic, samples_around, gradients_at}
 use Rattle.method.specs.Green.{Direction, horizontal, vertical, estimate, horizontal_estimate, less_eight}
 use Rattle.method.specs.Green.{first_pass, first_pass_or, outcome_at, green_or, trial_difference}

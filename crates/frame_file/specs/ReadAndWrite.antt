@@ -8,7 +8,7 @@ use Rattle.frame.specs.declared.Answer.TheVariants.{Done}
 use Rattle.frame.specs.declared.ReadAnswer.TheVariants as Read
 use Rattle.frame.specs.Sites.{Frame, frame}
 use Rattle.frame.specs.Calls.{Admitted}
-use Rattle.frame.specs.Admission.{done_passed, passed_done}
+use Rattle.frame.proofs.Admission.{done_passed, passed_done}
 use Rattle.frame_file.specs.Lists.{Below}
 use Rattle.frame_file.specs.FrameFile.{sample_count, shape_of, file_length, written_file, write_answer, file_after_write, Reading, accepted, refused, answer_of, samples_of, reading, read_answer, samples_after_read}
 use Rattle.frame_file.specs.WrittenFile.{length_written_file}

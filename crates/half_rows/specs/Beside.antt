@@ -7,7 +7,7 @@ use Rattle.std.proofs.Math.IntN.{sub_ℕ}
 use Rattle.std.proofs.Math.ListN.{get_or}
 use Rattle.toolkit.specs.Entries.{Entries, entries_as}
 use Rattle.frame.specs.Sites.{Frame, around, reflect}
-use Rattle.frame.specs.Reflection.{reflect_here}
+use Rattle.frame.proofs.Reflection.{reflect_here}
 use Rattle.positions.specs.Columns.{column_at}
 use Rattle.positions.specs.ColumnLaws.{column_inside}
 use Rattle.positions.specs.HalfRows.{chroma_start, half_count, chroma_count, chroma_row, Half}

@@ -18,7 +18,8 @@ use Rattle.positions.proofs.edge_row.Reads as edge_row_contract
 use Rattle.toolkit.specs.Differences.{as_difference}
 use Rattle.toolkit.specs.Orders.{to_naturals}
 use Rattle.frame.specs.Sites.{Frame, Colour, around}
-use Rattle.frame.specs.InnerSites.{Inner, inner_near, read_as_written}
+use Rattle.frame.specs.InnerSites.{Inner}
+use Rattle.frame.proofs.InnerSites.{inner_near, read_as_written}
 use Rattle.method.specs.Gradients.{mosaic}
 use Rattle.method.specs.Planes.{less_black}
 use Rattle.method.specs.Comparison.{number_at, entry_at}

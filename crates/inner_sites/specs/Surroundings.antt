@@ -5,8 +5,9 @@ use Rattle.std.proofs.Math.Path.{ap₂}
 use Rattle.toolkit.specs.Differences.{as_difference}
 use Rattle.toolkit.specs.Orders.{to_naturals}
 use Rattle.frame.specs.Sites.{Around, reflect, around}
-use Rattle.frame.specs.Reflection.{reflect_here}
-use Rattle.frame.specs.InnerSites.{margin, Inner, inner_near, read_as_written}
+use Rattle.frame.proofs.Reflection.{reflect_here}
+use Rattle.frame.specs.InnerSites.{margin, Inner}
+use Rattle.frame.proofs.InnerSites.{inner_near, read_as_written}
 use Rattle.method.specs.Gradients.{Mosaic, around_in, samples_around}
 use Rattle.inner_sites.specs.Distances.{Reads, reading_distance}
 use Rattle.inner_sites.specs.StepDistances.{within_margin}

@@ -8,7 +8,7 @@ use Rattle.toolkit.specs.Differences.{as_difference}
 use Rattle.toolkit.specs.Orders.{Ranged, to_naturals}
 use Rattle.frame.specs.Sites.{Frame, Colour, highest_sample}
 use Rattle.frame.specs.Calls.{Admitted, AdmittedAt}
-use Rattle.frame.specs.Admission.{admitted_at_zero}
+use Rattle.frame.proofs.Admission.{admitted_at_zero}
 use Rattle.method.specs.Planes.{output, less_black}
 use Rattle.method.specs.Gradients.{mosaic}
 use Rattle.method.specs.Comparison.{number_at, entry_at, brightened, KeepsRange, SumsAreSamples, taken_off, NoneBelow}

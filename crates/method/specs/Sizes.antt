@@ -5,7 +5,7 @@ use Rattle.std.proofs.Common.{zero-le, le_trans, arith, lit≤, le→leb}
 use Rattle.toolkit.specs.Differences.{as_difference}
 use Rattle.toolkit.specs.Orders.{Ranged, to_naturals}
 use Rattle.frame.specs.Sites.{Frame, Colour, sample, around}
-use Rattle.frame.specs.Reflection.{reflect_lt}
+use Rattle.frame.proofs.Reflection.{reflect_lt}
 use Rattle.method.specs.Gradients.{mosaic, around_in, samples_around, FourDirections, gradients_at}
 use Rattle.method.specs.Green.{Direction, trial_difference}
 use Rattle.method.specs.Four.{directions, sizes, listed}

@@ -7,9 +7,10 @@ use mathlib.Core.List.{List}
 use Rattle.std.proofs.Math.IntN.{sub_ℕ}
 use Rattle.toolkit.specs.Entries.{Entries}
 use Rattle.frame.specs.Sites.{frame, reflect}
-use Rattle.frame.specs.Colours.{trade, trade_twice}
+use Rattle.frame.specs.Colours.{trade}
+use Rattle.frame.proofs.Colours.{trade_twice}
 use Rattle.frame.specs.declared.Shape.{Shape}
-use Rattle.frame.specs.Reflection.{reflect_here, reflect_lt}
+use Rattle.frame.proofs.Reflection.{reflect_here, reflect_lt}
 use Rattle.method.specs.Gradients.{FourDirections, mosaic, gradients_at}
 use Rattle.method.specs.Four.{directions, sizes, listed}
 use Rattle.method.specs.ColourLaws.{directions_path}

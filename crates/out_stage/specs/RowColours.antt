@@ -3,7 +3,8 @@ use Rattle.std.specs.Prelude.{◌≡◌, refl, cond, ℕ, zero, suc, ◌+◌, �
 use Rattle.std.proofs.Common.{◌∙◌, arith}
 use Rattle.std.proofs.Math.IntN.{nat_abs}
 use Rattle.frame.specs.Sites.{red, blue, colour, around}
-use Rattle.frame.specs.Colours.{trade, colour_parity, colour_around}
+use Rattle.frame.specs.Colours.{trade}
+use Rattle.frame.proofs.Colours.{colour_parity, colour_around}
 use Rattle.positions.specs.HalfRows.{chroma_start}
 use Rattle.records.specs.SiteColours.{row_colour, chroma_colour}
 

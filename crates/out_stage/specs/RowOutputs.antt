@@ -6,7 +6,8 @@ use Rattle.std.proofs.Math.Nat.{le_trans}
 use Rattle.std.proofs.Math.IntN.{pos}
 use Rattle.toolkit.specs.Entries.{Entries}
 use Rattle.frame.specs.Sites.{Frame, Colour, red, green, blue, sample}
-use Rattle.frame.specs.Colours.{trade, trade_twice, is_green}
+use Rattle.frame.specs.Colours.{trade, is_green}
+use Rattle.frame.proofs.Colours.{trade_twice}
 use Rattle.method.specs.Gradients.{mosaic}
 use Rattle.method.specs.Planes.{colour_difference, final_round, less_black}
 use Rattle.method.specs.Sizes.{colour_difference_size}

@@ -6,7 +6,7 @@ use Rattle.toolkit.specs.Tests.{ltb_no}
 use Rattle.frame.specs.declared.Answer.TheVariants.{Done}
 use Rattle.frame.specs.Sites.{Frame}
 use Rattle.frame.specs.Calls.{Admitted, develop_answer}
-use Rattle.frame.specs.Admission.{least_allowed, admitted_done, admitted_at_zero}
+use Rattle.frame.proofs.Admission.{least_allowed, admitted_done, admitted_at_zero}
 use Rattle.frame_file.specs.Lists.{Below}
 use Rattle.frame_file.specs.FrameFile.{block_count, file_length, reading, accepted}
 use Rattle.frame_file.specs.WrittenFile.{length_written_file}

@@ -18,7 +18,7 @@ use Rattle.frame.specs.declared.ReadAnswer.{ReadAnswer}
 use Rattle.frame.specs.declared.ReadAnswer.TheVariants as Read
 use Rattle.frame.specs.Sites.{Frame}
 use Rattle.frame.specs.Calls.{tested, and_then}
-use Rattle.frame.specs.Admission.{refused_not_done, tested_done, side_high}
+use Rattle.frame.proofs.Admission.{refused_not_done, tested_done, side_high}
 use Rattle.block.specs.BlockTest.{block_answer}
 use Rattle.frame_file.specs.Lists.{all_zero}
 use Rattle.frame_file.specs.FrameFile.{block, header, header_filler, sample_count, block_count, file_length, stored_samples, stored_frame, Reading, accepted, refused, length_allowed, check_holds, number_holds, header_allowed, filler_holds, later_blocks, reading, read_answer, samples_after_read}

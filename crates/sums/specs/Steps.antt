@@ -9,7 +9,7 @@ use Rattle.toolkit.specs.Differences.{as_difference}
 use Rattle.toolkit.specs.Orders.{to_naturals}
 use Rattle.toolkit.specs.Entries.{Entries, entries_as}
 use Rattle.frame.specs.Sites.{Frame, Around, reflect}
-use Rattle.frame.specs.Reflection.{reflect_here}
+use Rattle.frame.proofs.Reflection.{reflect_here}
 use Rattle.method.specs.Gradients.{apart, exchanged}
 use Rattle.method.specs.Green.{sum_about}
 use Rattle.positions.specs.HalfRows.{chroma_start, chroma_count, Half}

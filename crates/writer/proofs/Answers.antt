@@ -15,7 +15,7 @@ use Rattle.frame.specs.declared.Answer.{Answer}
 use Rattle.frame.specs.declared.Answer.TheVariants.{Done, Refused}
 use Rattle.frame.specs.Sites.{frame, highest_sample}
 use Rattle.frame.specs.Calls.{tested, and_then, samples_answer}
-use Rattle.frame.specs.Admission.{samples_done}
+use Rattle.frame.proofs.Admission.{samples_done}
 use Rattle.admission.specs.ShapeTest.{shape_answer, count_answer}
 use Rattle.admission.specs.InOrder.{in_order}
 use Rattle.admission.specs.Allowed.{shape_passes, count_passes, count_most}

@@ -2,7 +2,7 @@
 use mathlib.Core.Path.{◌≡◌, ◌∙◌, ap}
 use Prim.Native.Nat.{ℕ, ◌-◌, ◌/◌, ◌%◌}
 use lib.IntN.{pos}
-use Rattle.frame.specs.Reflection.{reflect_parity}
+use Rattle.frame.proofs.Reflection.{reflect_parity}
 use Rattle.positions.specs.HalfRowLaws.{seat_of}
 use Rattle.half_rows.proofs.column_place.Goals as goal
 

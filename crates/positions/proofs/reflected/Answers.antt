@@ -1,6 +1,6 @@
 -- `positions::reflected` meets its contract: in the line, past one end (`fold_once`), or farther. Assumes nothing.
 use mathlib.Core.Path.{sym}
-use Rattle.frame.specs.Reflection.{reflect_inside}
+use Rattle.frame.proofs.Reflection.{reflect_inside}
 use Rattle.positions.specs.ColumnLaws.{fold_once}
 use native.Mathlib.Omega.{arith}
 use Rattle.positions.proofs.reflected.Goals as goal

@@ -4,7 +4,7 @@ use Prim.Native.Nat.{◌+◌}
 use native.Mathlib.Omega.{arith}
 use lib.IntN.{pos}
 use Rattle.frame.specs.Sites.{reflect}
-use Rattle.frame.specs.Reflection.{sub_large}
+use Rattle.frame.proofs.Reflection.{sub_large}
 use Rattle.positions.proofs.row_below.Goals as goal
 
 pub returns : goal.returns

@@ -3,7 +3,8 @@
 use mathlib.Core.Path.{refl, sym}
 use Prim.Native.Nat.{ℕ, ◌+◌, ◌-◌, ◌<◌}
 use native.Mathlib.Omega.{arith}
-use Rattle.frame.specs.InnerSites.{Inner, inner_reflect}
+use Rattle.frame.specs.InnerSites.{Inner}
+use Rattle.frame.proofs.InnerSites.{inner_reflect}
 use borrow.Author.Rules.{rules}
 use Rattle.positions.proofs.row_near.Goals as goal
 use Rattle.positions.proofs.row_near.Goals.{then-i-off-ge20+else-i-h, else-i-off-ge20}

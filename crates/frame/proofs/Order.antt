@@ -8,7 +8,7 @@ use Rattle.frame.specs.declared.Refusal.TheVariants.{Phase, Sample, BlackLevel}
 use Rattle.frame.specs.declared.Answer.TheVariants.{Refused}
 use Rattle.frame.specs.Sites.{Frame, side_allowed, phase_allowed, highest_sample}
 use Rattle.frame.specs.Calls.{samples_answer, answer_in_order, highest_black, black_answer, Lengths, lengths_allowed, develop_answer}
-use Rattle.frame.specs.Admission.{first_fails}
+use Rattle.frame.proofs.Admission.{first_fails}
 
 module _ (f : Frame) (b : ℕ) (l : Lengths) (w : T (side_allowed f.width)) (h : T (side_allowed f.height)) where
   sides : (side_allowed f.width && side_allowed f.height) ≡ true
