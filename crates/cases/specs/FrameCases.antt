@@ -1,22 +1,16 @@
 -- Whole planes and decision maps: of K10's frame, whose planes document 01 tells, and of a larger frame rich in weak sites, whose planes
 -- and map are as the independent implementation in tests/reference develops it; and K1's planes at a black level above 0. Computed by
 -- stages. Assumes nothing.
-use Rattle.std.specs.Prelude.{◌≡◌, refl, List, [], ◌∷◌, ◌++◌, ℕ, ℤ, pos, neg_ℤ}
-use Rattle.std.proofs.Common.{arith}
-use Rattle.toolkit.specs.Tables.{tabulate}
-use Rattle.toolkit.specs.Raster.{raster}
-use Rattle.toolkit.specs.Rounding.{round_half_up}
-use Rattle.frame.specs.Sites.{Frame, Colour, red, green, blue, sample, rggb, colour, reflect_once, reflect_times, reflect, around}
-use Rattle.method.specs.Gradients.{mosaic, apart, taps, six_tap, six_tap_pair, eastbound, east_gradient, west_gradient, gradients, gradients_at}
-use Rattle.method.specs.Green.{line_estimate, horizontal_estimate, half, estimate, threshold, outcome, first_pass, less_eight, reach, sum_about, column_sum, horizontal_sum, vertical_sum, diagonal_sum, least_sum, second_pass, decision_map}
-use Rattle.method.specs.Planes.{inner_round, one_if_zero, count_zeros, weight, weights, times, sum_of_four, weighted_sum, total, weighted_mean, straight, fusion_share, fused, corners, diagonally, corner_gradients, final_round, less_black, plane}
-use Rattle.cases.specs.Row.{numbers, naturals, Case, all_given, all_told}
+use Rattle.std.specs.Prelude.{List, [], ◌∷◌, ◌++◌, ℕ, ℤ, pos, neg_ℤ}
+use Rattle.frame.specs.Sites.{Frame, Colour, red, green, blue}
+use Rattle.method.specs.Green.{decision_map}
+use Rattle.method.specs.Planes.{plane}
+use Rattle.cases.specs.Row.{numbers, naturals, Case}
 use Rattle.cases.specs.GlazeCases.{small_frame, edge_frame}
-use Rattle.cases.specs.StagedPlanes.{kept, trial_stage, difference_stage, final_stage, chroma_stage, colour_stage, output_stage, kept_trials, kept_finals, decision_stage, staged_output, staged_entry, staged_plane, staged_map, plane_staged, map_staged}
 
 -- 6 by 6, GBRG. Of the 18 red and blue sites 13 are weak: the second pass takes gH at four, gV at four and gD at five, three of these
 -- for equal sums; one site is equal, one strong across, three strong down. Some numbers lie below 0 and some above 1,023.
-abbrev larger_frame : Frame
+abbrev pub larger_frame : Frame
 larger_frame = record {
   width = 6;
   height = 6;
@@ -38,7 +32,7 @@ abbrev minus : ℕ → ℤ
 minus n = neg_ℤ (pos n)
 
 -- the rows, with the planes formed by `planes` and the maps by `maps`
-abbrev rows_by : (Frame → ℕ → Colour → List ℤ) → (Frame → List ℕ) → List Case
+abbrev pub rows_by : (Frame → ℕ → Colour → List ℤ) → (Frame → List ℕ) → List Case
 rows_by planes maps =
     -- "Develop on K10 gives three planes equal to the mosaic"
     record {
@@ -106,34 +100,3 @@ rows_by planes maps =
 
 unfoldable pub frame_cases : List Case
 frame_cases = rows_by plane decision_map
-
-staged_rows : all_given (rows_by staged_plane staged_map) ≡ all_told (rows_by staged_plane staged_map)
-unfolding kept trial_stage difference_stage final_stage chroma_stage colour_stage output_stage kept_trials kept_finals decision_stage staged_output staged_entry staged_plane staged_map tabulate raster round_half_up sample rggb colour reflect_once reflect_times reflect around mosaic apart taps six_tap six_tap_pair eastbound east_gradient west_gradient gradients gradients_at line_estimate horizontal_estimate half estimate threshold outcome first_pass less_eight reach sum_about column_sum horizontal_sum vertical_sum diagonal_sum least_sum second_pass inner_round one_if_zero count_zeros weight weights times sum_of_four weighted_sum total weighted_mean straight fusion_share fused corners diagonally corner_gradients final_round less_black
-staged_rows = refl
-
-pub frame_cases_hold : all_given frame_cases ≡ all_told frame_cases
-unfolding frame_cases
-frame_cases_hold =
-    rw (
-      edge red,
-      edge green,
-      edge blue,
-      larger red,
-      larger green,
-      larger blue,
-      small red,
-      small green,
-      small blue,
-      map_staged edge_frame (omega arith) (omega arith),
-      map_staged larger_frame (omega arith) (omega arith),
-    )
-    staged_rows
-  where
-    edge : (c : Colour) → plane edge_frame 0 c ≡ staged_plane edge_frame 0 c
-    edge = plane_staged edge_frame (omega arith) (omega arith) 0
-
-    larger : (c : Colour) → plane larger_frame 0 c ≡ staged_plane larger_frame 0 c
-    larger = plane_staged larger_frame (omega arith) (omega arith) 0
-
-    small : (c : Colour) → plane small_frame 100 c ≡ staged_plane small_frame 100 c
-    small = plane_staged small_frame (omega arith) (omega arith) 100

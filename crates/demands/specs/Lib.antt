@@ -1,11 +1,4 @@
 pub mod WhatCallsLeave
-pub mod CallContracts
-pub mod Exports
 pub mod Conditions
 pub mod Rows
 pub mod ReadRows
-pub mod Acceptance
-pub mod Demand1
-pub mod Demand2
-pub mod Demand3
-pub mod InnerSites

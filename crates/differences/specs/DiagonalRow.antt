@@ -11,8 +11,9 @@ use Rattle.frame.specs.Sites.{Frame, reflect, around}
 use Rattle.method.specs.Gradients.{mosaic}
 use Rattle.method.specs.Four.{directions, sizes}
 use Rattle.method.specs.Planes.{weighted_mean, diagonally, corners, corner_gradients, chroma_site_difference}
-use Rattle.method.specs.Sizes.{AtMost, around_size, final_difference_size}
-use Rattle.method.specs.ColourLaws.{directions_path}
+use Rattle.method.specs.Sizes.{AtMost}
+use Rattle.method.proofs.Sizes.{around_size, final_difference_size}
+use Rattle.method.proofs.ColourLaws.{directions_path}
 use Rattle.positions.specs.Taken.{Taken}
 use Rattle.positions.specs.Rings.{place_in_ring}
 use Rattle.positions.specs.RingLaws.{ring_end}

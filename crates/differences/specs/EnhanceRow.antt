@@ -11,8 +11,9 @@ use Rattle.frame.proofs.Reflection.{reflect_here}
 use Rattle.method.specs.Gradients.{mosaic}
 use Rattle.method.specs.Four.{directions, sizes}
 use Rattle.method.specs.Planes.{weighted_mean, straight, mean_two_off, fused, final_difference}
-use Rattle.method.specs.Sizes.{AtMost, around_size, green_difference_size, mean_size}
-use Rattle.method.specs.ColourLaws.{directions_path}
+use Rattle.method.specs.Sizes.{AtMost}
+use Rattle.method.proofs.Sizes.{around_size, green_difference_size, mean_size}
+use Rattle.method.proofs.ColourLaws.{directions_path}
 use Rattle.positions.specs.Taken.{Taken}
 use Rattle.positions.specs.Places.{plane_row}
 use Rattle.positions.specs.Near.{near_north, near_south, north_step, north_even, south_even}

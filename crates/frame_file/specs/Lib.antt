@@ -1,15 +1,2 @@
 pub mod Lists
 pub mod FrameFile
-pub mod BlockCount
-pub mod LittleEndian
-pub mod Check
-pub mod Raw10
-pub mod WrittenBlocks
-pub mod BlocksFromTests
-pub mod BlockSamples
-pub mod ReadTests
-pub mod WrittenFile
-pub mod AcceptedFile
-pub mod AcceptedExactlyWhenWritten
-pub mod OneByteChanged
-pub mod ReadAndWrite

@@ -12,8 +12,8 @@ use Rattle.frame.specs.declared.ReadAnswer.TheVariants as Read
 use Rattle.frame.specs.Sites.{Frame, frame}
 use Rattle.frame.specs.Calls.{develop_answer}
 use Rattle.frame_file.specs.FrameFile.{Reading, accepted, refused, reading, shape_of, sample_count, block_count, stored_frame, answer_of, samples_of, read_answer, samples_after_read}
-use Rattle.frame_file.specs.BlockSamples.{length_stored_samples}
-use Rattle.frame_file.specs.ReadTests.{header_of_accepted, later_blocks_accepted}
+use Rattle.frame_file.proofs.BlockSamples.{length_stored_samples}
+use Rattle.frame_file.proofs.ReadTests.{header_of_accepted, later_blocks_accepted}
 use Rattle.printing.specs.Printing.{black_level, lent, text_of_developed, refusal_text, text_of, printed}
 
 -- the samples of an accepted frame are W·H, and there is room for them

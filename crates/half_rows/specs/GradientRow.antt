@@ -5,7 +5,7 @@ use Rattle.toolkit.specs.Entries.{Entries}
 use Rattle.frame.specs.Sites.{Frame}
 use Rattle.method.specs.Gradients.{mosaic, gradients_at}
 use Rattle.method.specs.Four.{directions, sizes, listed}
-use Rattle.method.specs.Sizes.{listed_naturals}
+use Rattle.method.proofs.Sizes.{listed_naturals}
 use Rattle.positions.specs.Rings.{place_in_ring}
 use Rattle.positions.specs.HalfRows.{chroma_start, half_count, chroma_count}
 use Rattle.positions.specs.HalfRowLaws.{chroma_small, count_column, count_high, count_half, count_most, chroma_count_is}

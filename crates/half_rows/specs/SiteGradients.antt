@@ -10,7 +10,8 @@ use Rattle.toolkit.specs.Entries.{Entries}
 use Rattle.frame.specs.Sites.{Frame}
 use Rattle.method.specs.Gradients.{mosaic, gradients_at}
 use Rattle.method.specs.Four.{listed, same_four}
-use Rattle.method.specs.Sizes.{AtMost, gradients_size}
+use Rattle.method.specs.Sizes.{AtMost}
+use Rattle.method.proofs.Sizes.{gradients_size}
 use Rattle.positions.specs.Taken.{Taken}
 use Rattle.positions.specs.Places.{room, row_end}
 use Rattle.positions.specs.Rings.{place_in_ring, Round}

@@ -1,9 +1,2 @@
 pub mod Distances
 pub mod FarSites
-pub mod StepDistances
-pub mod Surroundings
-pub mod Stages
-pub mod OwnColumns
-pub mod RowReads
-pub mod HalfRowReads
-pub mod InnerSites

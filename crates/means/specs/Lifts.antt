@@ -8,9 +8,10 @@ use Rattle.toolkit.specs.Naturals.{not_negative, lift_from, lift_most}
 use Rattle.toolkit.specs.Rounding.{round_half_up, round_shift}
 use Rattle.method.specs.Gradients.{FourDirections}
 use Rattle.method.specs.Planes.{inner_round, weights, times, sum_of_four, weighted_sum, total, weighted_mean}
-use Rattle.method.specs.MeanLaws.{total_above}
+use Rattle.method.proofs.MeanLaws.{total_above}
 use Rattle.method.specs.Four.{directions, sizes}
-use Rattle.method.specs.Sizes.{AtMost, Naturals, mean_size}
+use Rattle.method.specs.Sizes.{AtMost, Naturals}
+use Rattle.method.proofs.Sizes.{mean_size}
 use Rattle.means.specs.Naturals.{numbers, signed, unsigned, NaturalMeanFits}
 
 abbrev pub lifted_values : List ℤ → ℤ → List ℤ

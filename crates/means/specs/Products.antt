@@ -7,7 +7,8 @@ use Rattle.toolkit.specs.Rounding.{round_half_up, round_is}
 use Rattle.toolkit.specs.Tests.{by_test, eqb_eq}
 use Rattle.method.specs.Gradients.{FourDirections}
 use Rattle.method.specs.Planes.{inner_round, one_if_zero, count_zeros, weight, weights, times, sum_of_four, weighted_sum, total, weighted_mean}
-use Rattle.method.specs.Sizes.{AtMost, weaker}
+use Rattle.method.specs.Sizes.{AtMost}
+use Rattle.method.proofs.Sizes.{weaker}
 use Rattle.means.specs.Naturals.{numbers, signed, NaturalMeanFits}
 
 abbrev four : ℕ → ℕ → ℕ → ℕ → FourDirections ℕ

@@ -10,9 +10,10 @@ use Rattle.frame.specs.Sites.{Frame, Colour, colour, around}
 use Rattle.frame.specs.Colours.{trade}
 use Rattle.method.specs.Gradients.{FourDirections, mosaic, around_in, gradients_at}
 use Rattle.method.specs.Four.{sizes}
-use Rattle.method.specs.ColourLaws.{directions_path}
+use Rattle.method.proofs.ColourLaws.{directions_path}
 use Rattle.method.specs.Planes.{weighted_mean, straight, chroma_site_difference, colour_difference}
-use Rattle.method.specs.Sizes.{AtMost, around_size, final_difference_size, chroma_site_difference_size}
+use Rattle.method.specs.Sizes.{AtMost}
+use Rattle.method.proofs.Sizes.{around_size, final_difference_size, chroma_site_difference_size}
 use Rattle.positions.specs.Taken.{Taken}
 use Rattle.positions.specs.HalfRows.{chroma_start, half_count}
 use Rattle.records.specs.Layout.{record_size, final_part, other_part}

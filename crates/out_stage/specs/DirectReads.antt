@@ -13,9 +13,10 @@ use Rattle.frame.specs.declared.Shape.{Shape}
 use Rattle.frame.proofs.Reflection.{reflect_here, reflect_lt}
 use Rattle.method.specs.Gradients.{FourDirections, mosaic, gradients_at}
 use Rattle.method.specs.Four.{directions, sizes, listed}
-use Rattle.method.specs.ColourLaws.{directions_path}
+use Rattle.method.proofs.ColourLaws.{directions_path}
 use Rattle.method.specs.Planes.{weighted_mean, colour_difference}
-use Rattle.method.specs.Sizes.{AtMost, listed_naturals}
+use Rattle.method.specs.Sizes.{AtMost}
+use Rattle.method.proofs.Sizes.{listed_naturals}
 use Rattle.positions.specs.Taken.{Taken}
 use Rattle.positions.specs.Rings.{place_in_ring}
 use Rattle.positions.specs.RingLaws.{ring_end}

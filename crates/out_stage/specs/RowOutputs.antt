@@ -10,7 +10,7 @@ use Rattle.frame.specs.Colours.{trade, is_green}
 use Rattle.frame.proofs.Colours.{trade_twice}
 use Rattle.method.specs.Gradients.{mosaic}
 use Rattle.method.specs.Planes.{colour_difference, final_round, less_black}
-use Rattle.method.specs.Sizes.{colour_difference_size}
+use Rattle.method.proofs.Sizes.{colour_difference_size}
 use Rattle.positions.specs.Taken.{Taken}
 use Rattle.positions.specs.Rings.{place_in_ring}
 use Rattle.positions.specs.HalfRows.{chroma_start, chroma_count, Half}

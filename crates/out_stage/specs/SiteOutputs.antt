@@ -6,7 +6,7 @@ use Rattle.frame.specs.Sites.{Frame, Colour, red, green, blue}
 use Rattle.frame.specs.Colours.{trade, is_green}
 use Rattle.frame.proofs.Colours.{trade_twice}
 use Rattle.method.specs.Gradients.{Mosaic, mosaic, around_in, gradients_at}
-use Rattle.method.specs.ColourLaws.{same_self}
+use Rattle.method.proofs.ColourLaws.{same_self}
 use Rattle.method.specs.Planes.{weighted_mean, straight, same, final_difference, chroma_site_difference, colour_difference, green_quarters, quarters, final_round, output}
 use Rattle.records.specs.Quantities.{others}
 

@@ -13,7 +13,7 @@ use borrow.Author.Tests.{ne_eqb}
 use Rattle.toolkit.specs.Tests.{eqb_yes}
 use Rattle.frame_file.specs.Lists.{part, get_d_part, joined, getD_joined, getD_append_zeros, put_at, length_put_at, put_at_joined, all_zero, all_zero_drop, all_zero_past, Below}
 use Rattle.frame_file.specs.FrameFile.{filled_up, packed, unpacked, packed_payload, unpacked_payload}
-use Rattle.frame_file.specs.Raw10.{length_packed, length_unpacked, length_unpacked_payload}
+use Rattle.frame_file.proofs.Raw10.{length_packed, length_unpacked, length_unpacked_payload}
 
 -- ---- groups of samples
 

@@ -9,8 +9,8 @@ use Rattle.frame.specs.Calls.{Admitted, develop_answer}
 use Rattle.frame.proofs.Admission.{least_allowed, admitted_done, admitted_at_zero}
 use Rattle.frame_file.specs.Lists.{Below}
 use Rattle.frame_file.specs.FrameFile.{block_count, file_length, reading, accepted}
-use Rattle.frame_file.specs.WrittenFile.{length_written_file}
-use Rattle.frame_file.specs.AcceptedExactlyWhenWritten.{WrittenFrom, accepted_is_written}
+use Rattle.frame_file.proofs.WrittenFile.{length_written_file}
+use Rattle.frame_file.proofs.AcceptedExactlyWhenWritten.{WrittenFrom, accepted_is_written}
 use Rattle.printing.specs.Printing.{black_level, lent, frame_text, printed}
 
 pub admitted_developed : (f : Frame) → Admitted f → develop_answer f black_level (lent f) ≡ Done

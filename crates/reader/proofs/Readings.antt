@@ -23,7 +23,7 @@ use Rattle.block.specs.BlockTest.{block_answer}
 use Rattle.frame_file.specs.Lists.{all_zero}
 use Rattle.frame_file.specs.FrameFile.{block, header, header_filler, sample_count, block_count, file_length, stored_samples, stored_frame, Reading, accepted, refused, length_allowed, check_holds, number_holds, header_allowed, filler_holds, later_blocks, reading, read_answer, samples_after_read}
 use Rattle.frame_file.specs.FrameFile as File
-use Rattle.frame_file.specs.ReadTests.{allowed_header}
+use Rattle.frame_file.proofs.ReadTests.{allowed_header}
 use Rattle.reader.specs.ReadSteps.{header_answer, first_answer, later_answer, later_answers}
 
 -- a refusal, or else what comes after

@@ -8,9 +8,9 @@ use lib.Seq.{take-add, take_at, take-take, take_all, drop_at, drop-drop}
 use borrow.Rule.Slice.PartMut.{put_mid, mid_of, mid_len, same_len_mid}
 use Rattle.frame_file.specs.Lists.{part, part_take, joined, part_joined}
 use Rattle.frame_file.specs.FrameFile.{payload, unpacked_payload, block_count, stored_samples}
-use Rattle.frame_file.specs.Raw10.{length_unpacked_payload}
-use Rattle.frame_file.specs.BlockCount.{block_after_header}
-use Rattle.frame_file.specs.BlockSamples.{length_stored_samples}
+use Rattle.frame_file.proofs.Raw10.{length_unpacked_payload}
+use Rattle.frame_file.proofs.BlockCount.{block_after_header}
+use Rattle.frame_file.proofs.BlockSamples.{length_stored_samples}
 
 module _ (file : List ℕ) (m : ℕ) where
   block_samples : ℕ → List ℕ

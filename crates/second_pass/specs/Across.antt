@@ -8,7 +8,7 @@ use Rattle.frame.specs.Sites.{Frame, Around}
 use Rattle.method.specs.Gradients.{mosaic, samples_around}
 use Rattle.method.specs.Green.{Outcome, equal, strong_across, strong_down, weak, first_pass_or, horizontal, vertical, diagonal}
 use Rattle.method.specs.Green.{estimate, less_eight, outcome_at, green_or, trial_difference}
-use Rattle.method.specs.GreenLaws.{diagonal_is_whole}
+use Rattle.method.proofs.GreenLaws.{diagonal_is_whole}
 use Rattle.records.specs.Quantities.{trials}
 
 all_equal : (x : ℤ) → pos 2 *ℤ x -ℤ x ≡ x

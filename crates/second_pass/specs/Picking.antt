@@ -9,7 +9,7 @@ use Rattle.frame.specs.Sites.{Frame, around}
 use Rattle.method.specs.Gradients.{mosaic, exchanged}
 use Rattle.method.specs.Green.{Direction, horizontal, vertical, diagonal, reach, column_sum, horizontal_sum, vertical_sum, diagonal_sum}
 use Rattle.method.specs.Green.{less_eight, least_sum, second_pass, second_pass_at, trial_difference}
-use Rattle.method.specs.GreenLaws.{green_is_decided}
+use Rattle.method.proofs.GreenLaws.{green_is_decided}
 use Rattle.method.specs.Planes.{green_difference}
 use Rattle.positions.specs.ColumnLaws.{column_inside}
 use Rattle.positions.specs.HalfRows.{chroma_start, chroma_count, chroma_row, Half}

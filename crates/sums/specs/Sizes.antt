@@ -7,7 +7,7 @@ use Rattle.toolkit.specs.Entries.{Entries}
 use Rattle.frame.specs.Sites.{Frame}
 use Rattle.method.specs.Gradients.{apart}
 use Rattle.method.specs.Green.{Direction}
-use Rattle.method.specs.Sizes.{trial_difference_size}
+use Rattle.method.proofs.Sizes.{trial_difference_size}
 use Rattle.positions.specs.Taken.{Taken}
 use Rattle.positions.specs.Columns.{column_at}
 use Rattle.positions.specs.ColumnLaws.{column_lt}

@@ -9,10 +9,10 @@ use borrow.Rule.Slice.PartMut.{put_mid}
 use Rattle.frame.specs.declared.Shape.{Shape}
 use Rattle.frame_file.specs.Lists.{part, get_d_front, zeros, length_zeros, drop_zeros, zeros_append, length_part, put_at, put_at_next}
 use Rattle.frame_file.specs.FrameFile.{little_endian_bytes, check, tag, packed_payload, with_check, header_bytes, sample_bytes}
-use Rattle.frame_file.specs.LittleEndian.{length_little_endian_bytes}
-use Rattle.frame_file.specs.Check.{check_cong}
-use Rattle.frame_file.specs.Raw10.{length_packed_payload}
-use Rattle.frame_file.specs.WrittenBlocks.{length_header_bytes}
+use Rattle.frame_file.proofs.LittleEndian.{length_little_endian_bytes}
+use Rattle.frame_file.proofs.Check.{check_cong}
+use Rattle.frame_file.proofs.Raw10.{length_packed_payload}
+use Rattle.frame_file.proofs.WrittenBlocks.{length_header_bytes}
 
 -- the check stored after 508 bytes
 pub check_stored : (b c : List ℕ) → length b ≡ 512 → c ≡ little_endian_bytes 4 (check b) → put_at b 508 c ≡ with_check (part b 0 508)

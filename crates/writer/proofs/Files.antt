@@ -9,8 +9,8 @@ use Rattle.frame.specs.declared.Shape.{Shape}
 use Rattle.frame.specs.Sites.{frame}
 use Rattle.frame_file.specs.Lists.{part, joined, put_at, put_at_next, put_at_joined, length_put_at}
 use Rattle.frame_file.specs.FrameFile.{filled_up, block_samples, block_count, with_check, header_bytes, sample_bytes, written_block, written_file}
-use Rattle.frame_file.specs.Check.{length_with_check}
-use Rattle.frame_file.specs.WrittenBlocks.{length_sample_bytes, length_written_block}
+use Rattle.frame_file.proofs.Check.{length_with_check}
+use Rattle.frame_file.proofs.WrittenBlocks.{length_sample_bytes, length_written_block}
 
 -- the first n blocks are written, whatever the shape of block 0; `before` is the file where only block 0 is written
 pub record Written (mosaic before file : List ℕ) (n : ℕ) : Type 0 where

@@ -1,5 +1,5 @@
 -- `block::check_of` meets its contract. The invariant: the sum is over the first k bytes. Assumes nothing.
-use Rattle.frame_file.specs.Check.{term_bound}
+use Rattle.frame_file.proofs.Check.{term_bound}
 use Rattle.block.proofs.Loops.{summed_none, summed_next, summed_all}
 use native.Mathlib.Omega.{arith}
 use Rattle.block.proofs.check_of.Goals as goal

@@ -1,7 +1,7 @@
 -- `block::number_of_four` meets its contract. Assumes nothing.
 use mathlib.Core.Path.{sym, ◌∙◌, ap₂}
 use Prim.Native.Nat.{ℕ, ◌+◌, ◌*◌}
-use Rattle.frame_file.specs.LittleEndian.{number_of_four}
+use Rattle.frame_file.proofs.LittleEndian.{number_of_four}
 use Rattle.block.proofs.number_of_four.Goals as goal
 
 pub returns : goal.returns

@@ -1,7 +1,7 @@
 -- `block::number_of_two` meets its contract. Assumes nothing.
 use mathlib.Core.Path.{sym, ◌∙◌, ap₂}
 use Prim.Native.Nat.{ℕ, ◌+◌, ◌*◌}
-use Rattle.frame_file.specs.LittleEndian.{number_of_two}
+use Rattle.frame_file.proofs.LittleEndian.{number_of_two}
 use native.Mathlib.Omega.{arith}
 use Rattle.block.proofs.number_of_two.Goals as goal
 

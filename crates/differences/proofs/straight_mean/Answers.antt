@@ -4,7 +4,7 @@ use lib.Dec.{lit≤}
 use Rattle.toolkit.specs.Bounds.{fits, val}
 use Rattle.toolkit.specs.BoundRules.{vals}
 use Rattle.method.specs.Four.{same_four}
-use Rattle.method.specs.Sizes.{weaker}
+use Rattle.method.proofs.Sizes.{weaker}
 use Rattle.half_rows.specs.Reading.{as_read}
 use Rattle.means.specs.Lifts.{lifted_mean_fits}
 use Rattle.differences.specs.Rows.{straight_read}

@@ -7,7 +7,7 @@ use mir.Facts.{to_z-of_z}
 use Rattle.toolkit.specs.Bounds.{fits, val}
 use Rattle.toolkit.specs.BoundRules.{pos_fits, with_size, vals}
 use Rattle.method.specs.Planes.{weighted_mean}
-use Rattle.method.specs.Sizes.{naturals_as}
+use Rattle.method.proofs.Sizes.{naturals_as}
 use Rattle.means.specs.Naturals.{numbers, signed, unsigned}
 use Rattle.means.specs.Lifts.{lifted_values, lifted_naturals, natural_mean_fits, mean_most, result_most, result_is}
 use Rattle.means.proofs.lifted_mean.Goals as goal

@@ -1,7 +1,7 @@
 -- `means::natural_mean` meets its contract. Assumes nothing.
 use mathlib.Core.Path.{◌≡◌, sym, ◌∙◌}
 use native.Mathlib.Omega.{arith}
-use Rattle.method.specs.Sizes.{weaker}
+use Rattle.method.proofs.Sizes.{weaker}
 use Rattle.means.specs.Naturals.{numbers}
 use Rattle.means.specs.Products.{numerator, products_mean, some_zero, same_sum, above_zero, same_round}
 use Rattle.means.specs.Products.{quotient_below}

@@ -1,5 +1,5 @@
 -- `payload::pack_payload` meets its contract. The invariant: the first g groups are stored. Assumes nothing.
-use Rattle.frame_file.specs.Raw10.{length_packed}
+use Rattle.frame_file.proofs.Raw10.{length_packed}
 use Rattle.payload.proofs.Groups.{stored_none, stored_next, stored_all}
 use mathlib.Core.Path.{sym, ◌∙◌, ap}
 use lib.ListN.{length}

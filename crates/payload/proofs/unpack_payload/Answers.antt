@@ -1,7 +1,7 @@
 -- `payload::unpack_payload` meets its contract. The invariant: the first k samples are stored, a whole number of groups. Assumes nothing.
 use mathlib.Core.Path.{◌∙◌, ap}
 use lib.ListN.{length}
-use Rattle.frame_file.specs.Raw10.{length_unpacked}
+use Rattle.frame_file.proofs.Raw10.{length_unpacked}
 use Rattle.payload.proofs.Groups.{filled_none, filled_next, filled_all}
 use native.Mathlib.Omega.{arith}
 use Rattle.payload.proofs.unpack_payload.Goals as goal

@@ -1,5 +1,5 @@
 -- `reader::test_blocks` meets its contract. The invariant: the blocks before block n pass. Assumes nothing.
-use Rattle.frame_file.specs.BlockCount.{some_blocks, block_starts}
+use Rattle.frame_file.proofs.BlockCount.{some_blocks, block_starts}
 use mathlib.Core.Path.{refl, sym, ◌∙◌}
 use Rattle.reader.proofs.Tests.{later_on, later_stop, later_end}
 use native.Mathlib.Omega.{arith}

@@ -1,5 +1,5 @@
 -- `reader::unpack_blocks` meets its contract. The invariant: the samples before position `start`, the first of block n, are stored. Assumes nothing.
-use Rattle.frame_file.specs.BlockCount.{block_inside}
+use Rattle.frame_file.proofs.BlockCount.{block_inside}
 use lib.ListN.{length, length-take, length-drop}
 use Rattle.reader.proofs.Samples.{unpacked_none, unpacked_next, unpacked_all}
 use native.Mathlib.Omega.{arith}

@@ -1,5 +1,5 @@
 -- `writer::write_blocks` meets its contract. The invariant: the first n blocks are written. Assumes nothing.
-use Rattle.frame_file.specs.BlockCount.{some_blocks, block_starts}
+use Rattle.frame_file.proofs.BlockCount.{some_blocks, block_starts}
 use mathlib.Core.Path.{sym, subst}
 use lib.ListN.{length}
 use Rattle.frame_file.specs.Lists.{Below, below_part}

@@ -1,0 +1,4 @@
+pub mod GlazeCases
+pub mod FrameCases
+pub mod AnswerCases
+pub mod Table

@@ -1,0 +1,97 @@
+-- Document 00, demand 1, for each call: what is returned is a row of document 01's table with its condition (`Rows`, `ReadRows`), and
+-- whatever is returned other than 0, 0 leaves every lent buffer as it was. That no call traps, runs without end or touches anything outside
+-- what it is lent is proved of every function by the language; what is lent to be read alone cannot change. Assumes nothing.
+use Rattle.std.specs.Prelude.{◌≡◌, refl, List, ℕ, eqb, ℤ}
+use Rattle.std.proofs.Common.{◌∙◌, ap}
+use Rattle.std.proofs.Math.ListN.{length}
+use Rattle.frame.specs.declared.Refusal.TheVariants.{BufferLength}
+use Rattle.frame.specs.declared.Answer.{Answer}
+use Rattle.frame.specs.declared.Answer.TheVariants.{Done, Refused}
+use Rattle.frame.specs.declared.ReadAnswer.{ReadAnswer}
+use Rattle.frame.specs.Sites.{Frame}
+use Rattle.frame.specs.Calls.{success, returned, returned_by_read, lengths_allowed, develop_answer, clamp_answer}
+use Rattle.frame_file.specs.FrameFile.{file_length, Reading, accepted, refused, answer_of, samples_of, reading, read_answer, samples_after_read, write_answer, file_after_write}
+use Rattle.demands.specs.WhatCallsLeave.{Buffers, buffers, lengths_of, LengthsAllowed, DevelopLeaves, ClampLeaves, ReadLeaves, WriteLeaves}
+use Rattle.demands.proofs.Acceptance.{lengths_yes, yes_lengths}
+use Rattle.demands.specs.Conditions.{both_ways, equal_decides, by_condition}
+use Rattle.demands.specs.Rows.{RowOfWrite, RowOfDevelop, RowOfClamp}
+use Rattle.demands.proofs.Rows.{number_4, done, write_in_order, develop_in_order}
+use Rattle.demands.specs.ReadRows.{RowOfRead}
+use Rattle.demands.proofs.ReadRows.{reading_row}
+
+-- ---- develop
+
+module _ (f : Frame) (b : ℕ) (before : Buffers) where
+  answer_row : RowOfDevelop f b (LengthsAllowed f before) (returned (develop_answer f b (lengths_of before)))
+  unfolding develop_answer
+  answer_row =
+      develop_in_order f (lengths_allowed f (lengths_of before)) (LengthsAllowed f before)
+      (both_ways _ (lengths_yes f before) (yes_lengths f before)) b
+
+  -- the number and place that develop returns are a row of the table
+  pub develop_row : (answer : Answer) (left : Buffers) → DevelopLeaves f b before answer left
+      → RowOfDevelop f b (LengthsAllowed f before) (returned answer)
+  develop_row answer left call = rw call.answered answer_row
+
+  -- and a refusal leaves the three planes, the map and the work buffer as they were
+  pub develop_refusal : (answer : Answer) (left : Buffers) → DevelopLeaves f b before answer left → ¬ (returned answer ≡ success)
+      → left ≡ before
+  develop_refusal Done left call no_success = absurd (no_success refl)
+  develop_refusal (Refused why) left call no_success =
+      λ t. buffers (call.red_left t) (call.green_left t) (call.blue_left t) (call.map_left t) (call.work_left t)
+
+-- ---- clamp
+
+module _ (numbers before : List ℤ) where
+  clamp_answer_row : RowOfClamp (length before ≡ length numbers) (returned (clamp_answer (length numbers) (length before)))
+  unfolding clamp_answer
+  clamp_answer_row =
+      by_condition (λ a. RowOfClamp (length before ≡ length numbers) (returned a)) Done (Refused BufferLength)
+      (equal_decides (length before) (length numbers)) done number_4
+
+  pub clamp_row : (answer : Answer) (left : List ℤ) → ClampLeaves numbers before answer left
+      → RowOfClamp (length before ≡ length numbers) (returned answer)
+  clamp_row answer left call = rw call.answered clamp_answer_row
+
+  pub clamp_refusal : (answer : Answer) (left : List ℤ) → ClampLeaves numbers before answer left → ¬ (returned answer ≡ success)
+      → left ≡ before
+  clamp_refusal Done left call no_success = absurd (no_success refl)
+  clamp_refusal (Refused why) left call no_success = call.plane_left
+
+-- ---- read
+
+module _ (file before : List ℕ) where
+  pub read_row : (answer : ReadAnswer) (left : List ℕ) → ReadLeaves file before answer left
+      → RowOfRead file (length before) (returned_by_read answer)
+  unfolding read_answer
+  read_row answer left call = rw call.answered (reading_row file (length before))
+
+  nothing_read : (o : Reading) → ¬ (returned_by_read (answer_of o) ≡ success) → samples_of o before ≡ before
+  nothing_read (accepted f) no_success = absurd (no_success refl)
+  nothing_read (refused why) no_success = refl
+
+  pub read_refusal : (answer : ReadAnswer) (left : List ℕ) → ReadLeaves file before answer left
+      → ¬ (returned_by_read answer ≡ success) → left ≡ before
+  unfolding read_answer samples_after_read
+  read_refusal answer left call no_success =
+      call.samples_left
+      ∙ nothing_read (reading file (length before)) (λ e. no_success (ap returned_by_read call.answered ∙ e))
+
+-- ---- write
+
+module _ (f : Frame) (before : List ℕ) where
+  write_answer_row : RowOfWrite f (length before ≡ file_length f) (returned (write_answer f (length before)))
+  unfolding write_answer
+  write_answer_row =
+      write_in_order f (eqb (length before) (file_length f)) (length before ≡ file_length f)
+      (equal_decides (length before) (file_length f))
+
+  pub write_row : (answer : Answer) (left : List ℕ) → WriteLeaves f before answer left
+      → RowOfWrite f (length before ≡ file_length f) (returned answer)
+  write_row answer left call = rw call.answered write_answer_row
+
+  pub write_refusal : (answer : Answer) (left : List ℕ) → WriteLeaves f before answer left → ¬ (returned answer ≡ success)
+      → left ≡ before
+  unfolding file_after_write
+  write_refusal Done left call no_success = absurd (no_success refl)
+  write_refusal (Refused why) left call no_success = rw (← call.answered) at call.file_left

@@ -1,0 +1,9 @@
+pub mod CallContracts
+pub mod Exports
+pub mod Rows
+pub mod ReadRows
+pub mod Acceptance
+pub mod Demand1
+pub mod Demand2
+pub mod Demand3
+pub mod InnerSites

@@ -1,0 +1,135 @@
+-- Document 02, A3: "the proofs show that every position read for it lies in the frame", for a site 20 or more rows and columns from every
+-- edge. Over the method: each step's positions, and that nothing farther off counts. Over the code: the row numbers. The columns are in
+-- `RowReads` and `HalfRowReads`. No hypothesis but the distance to the edges. Assumes nothing.
+use Rattle.std.specs.Prelude.{◌≡◌, ℕ, ◌+◌, ◌-◌, ◌≤◌, ℤ, nat_abs, ◌+ℤ◌}
+use Rattle.std.proofs.Common.{sym, ◌∙◌}
+use Rattle.std.proofs.Math.Path.{ap}
+use native.Mathlib.Omega.{arith}
+use Rattle.std.proofs.Math.IntN.{pos}
+use contract.Lifetimes.{Lfts}
+use borrow.Fn.World.{ArgsD, ResD}
+use borrow.Fn.Kinds.{ended_of}
+use denote.Triple.Clauses.{AtExit}
+use Rattle.positions.specs.contracts.row_near as row_near
+use Rattle.positions.proofs.row_near.Kinds as row_near_kinds
+use Rattle.positions.proofs.row_near.Reads as row_near_contract
+use Rattle.positions.specs.contracts.edge_row as edge_row
+use Rattle.positions.proofs.edge_row.Reads as edge_row_contract
+use Rattle.toolkit.specs.Differences.{as_difference}
+use Rattle.toolkit.specs.Orders.{to_naturals}
+use Rattle.frame.specs.Sites.{Frame, Colour, around}
+use Rattle.frame.specs.InnerSites.{Inner}
+use Rattle.frame.proofs.InnerSites.{inner_near, read_as_written}
+use Rattle.method.specs.Gradients.{mosaic}
+use Rattle.method.specs.Planes.{less_black}
+use Rattle.method.specs.Comparison.{number_at, entry_at}
+use Rattle.method.proofs.FrameChanges.{number_is_output, entry_is_code}
+use Rattle.inner_sites.specs.Distances.{gradient_distance, second_pass_distance, enhancement_distance, corner_distance, neighbour_distance, differences_off, finals_off, greens_off, trials_off, reading_distance}
+use Rattle.inner_sites.proofs.StepDistances.{within_margin}
+use Rattle.inner_sites.specs.FarSites.{FarFromEdges, Near, ReadAsWritten, StepAsWritten, StepsAsWritten, SameWindow}
+use Rattle.inner_sites.proofs.Surroundings.{written_near, InnerSite, Alike}
+use Rattle.inner_sites.proofs.Stages.{output_alike, entry_alike}
+
+-- a position that is read for an inner one, off away or less
+inner_off : {n i : ℕ} (off x : ℕ) → Inner n 0 i → Near off i x → Inner n off x
+inner_off off x inner near = inner_near off x off (omega arith) inner near.not_before near.not_behind
+
+module _ (f : Frame) (i j : ℕ) (far : FarFromEdges f i j) where
+  inner_row : Inner f.height 0 i
+  inner_row = record { before = omega (arith, far.rows_above); behind = omega (arith, far.rows_below) }
+
+  inner_column : Inner f.width 0 j
+  inner_column = record { before = omega (arith, far.columns_west); behind = omega (arith, far.columns_east) }
+
+  inner_site : InnerSite (mosaic f) 0 i j
+  unfolding mosaic
+  inner_site = record {
+    tall = omega (arith, far.rows_below);
+    wide = omega (arith, far.columns_east);
+    row = inner_row;
+    column = inner_column;
+  }
+
+  step_as_written : (off d : ℕ) → off + d ≤ reading_distance → StepAsWritten f off d i j
+  step_as_written off d h x y nx ny r c hr hc = (
+    read_as_written r (omega (arith, far.rows_below)) (inner_off off x inner_row nx) (omega (arith, within_margin)),
+    read_as_written c (omega (arith, far.columns_east)) (inner_off off y inner_column ny)
+        (omega (arith, within_margin)),
+  )
+
+  -- "every position read for it lies in the frame", at every step
+  pub every_step_as_written : StepsAsWritten f i j
+  unfolding reading_distance trials_off greens_off finals_off differences_off
+  every_step_as_written = record {
+    neighbours = step_as_written 0 neighbour_distance (omega arith);
+    corners = step_as_written differences_off corner_distance (omega arith);
+    enhancement = step_as_written finals_off enhancement_distance (omega arith);
+    second_pass = step_as_written greens_off second_pass_distance (omega arith);
+    gradients = step_as_written trials_off gradient_distance (omega arith);
+    samples = step_as_written 0 reading_distance (omega arith) i j here here;
+  }
+    where
+      here : {x : ℕ} → Near 0 x x
+      here = record { not_before = omega arith; not_behind = omega arith }
+
+-- ---- nothing farther off counts
+
+-- where two sites lie apart, so do the positions that are written alike from them
+written_apart : (x y i i' : ℕ) (r : ℤ) → pos x ≡ pos i +ℤ r → pos y ≡ pos i' +ℤ r → x + i' ≡ y + i
+written_apart x y i i' r = rw (as_difference r) (simp to_naturals (omega arith))
+
+module _ (f f' : Frame) (i j i' j' : ℕ) (far : FarFromEdges f i j) (far' : FarFromEdges f' i' j') (same : SameWindow f f' i j i' j') where
+  module _ (r c : ℤ) (hr : nat_abs r + 0 ≤ reading_distance) (hc : nat_abs c + 0 ≤ reading_distance) where
+    here : ReadAsWritten f reading_distance i j
+    here = (every_step_as_written f i j far).samples
+
+    there : ReadAsWritten f' reading_distance i' j'
+    there = (every_step_as_written f' i' j' far').samples
+
+    -- what is the same at all sites of the window is the same where it is read, r rows and c columns off
+    window_read : {X : Type 0} (q q' : ℕ → ℕ → X)
+        → ((x y x' y' : ℕ) → x + i' ≡ x' + i → y + j' ≡ y' + j → Near reading_distance i x → Near reading_distance j y → q x y ≡ q' x' y')
+        → around f.height f.width q i j r c ≡ around f'.height f'.width q' i' j' r c
+    unfolding around
+    window_read q q' e =
+        let a = here r c (omega arith) (omega arith) in
+        let b = there r c (omega arith) (omega arith) in
+        let row = written_near i _ r a.0 in
+        let column = written_near j _ c a.1 in
+        e _ _ _ _ (written_apart _ _ i i' r a.0 b.0) (written_apart _ _ j j' c a.1 b.1)
+        (record { not_before = omega arith; not_behind = omega arith }) (record { not_before = omega arith; not_behind = omega arith })
+
+  window_alike : Alike (mosaic f) (mosaic f') 0 i j i' j'
+  unfolding mosaic
+  window_alike = record {
+    inside = inner_site f i j far;
+    inside' = inner_site f' i' j' far';
+    samples = λ r c hr hc. window_read r c hr hc _ _ (λ x y x' y' a b n o. ap pos (same.samples x y x' y' a b n o));
+    colours = λ r c hr hc. window_read r c hr hc _ _ same.colours;
+  }
+
+  pub nothing_farther_counts : (b : ℕ) (c : Colour) → number_at f b c i j ≡ number_at f' b c i' j'
+  nothing_farther_counts b c =
+      number_is_output f b c i j (omega (arith, far.rows_below)) (omega (arith, far.columns_east))
+      ∙ ap (less_black b) (output_alike _ _ _ _ _ _ window_alike c)
+      ∙ sym (number_is_output f' b c i' j' (omega (arith, far'.rows_below)) (omega (arith, far'.columns_east)))
+
+  pub nothing_farther_decides : entry_at f i j ≡ entry_at f' i' j'
+  nothing_farther_decides =
+      entry_is_code f i j (omega (arith, far.rows_below)) (omega (arith, far.columns_east)) ∙ entry_alike _ _ _ _ _ _ window_alike
+      ∙ sym (entry_is_code f' i' j' (omega (arith, far'.rows_below)) (omega (arith, far'.columns_east)))
+
+-- ---- the row numbers of the code: `a` holds what a call is given, h, x, down, up and off, in this order. With a row of its own, or one that
+-- it reads, a stage hands over 0, `differences_off`, `finals_off` or `greens_off`; first hands over the row two below with `trials_off` + 2
+
+-- where row x is read for a row i that is far from both edges, off rows away or less, `row_near` answers by adding and subtracting
+pub rows_by_adding : (κs : Lfts 0) (a : ArgsD row_near.signature κs) (r : ResD row_near.signature κs)
+    (s : AtExit (ended_of 0 row_near_kinds.ps row_near_kinds.r) κs) → row_near_contract.Learnt κs a r s
+    → (i : ℕ) → Inner a.0 0 i → Near a.1.1.1.1.0 i a.1.0
+    → r ≡ a.1.0 + a.1.1.0 - a.1.1.1.0
+rows_by_adding κs a r s learnt i inner near = learnt.1 (inner_off _ _ inner near)
+
+-- and `edge_row`, the one function of rows that reflects, is never asked for it
+pub never_reflected : (κs : Lfts 0) (a : ArgsD edge_row.signature κs) → edge_row_contract.Asked κs a
+    → (i : ℕ) → Inner a.0 0 i → ¬ (Near a.1.1.1.1.0 i a.1.0)
+never_reflected κs a asked i inner near = asked.4 (inner_off _ _ inner near)

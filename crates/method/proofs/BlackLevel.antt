@@ -1,0 +1,81 @@
+-- Frames at a black level: a constant that keeps the samples in range, the black level taken off the samples beforehand, and the range of
+-- the numbers. Assumes nothing.
+use Rattle.std.specs.Prelude.{◌≡◌, refl, List, [], ◌∷◌, map, ℕ, zero, suc, ◌-◌, ◌<◌, ◌≤◌, ℤ, pos, negsuc, neg_ℤ, ◌+ℤ◌, ◌-ℤ◌, length, get_or, ◌≤ℤ◌}
+use Rattle.std.proofs.Common.{sym, ◌∙◌, ap, ap₂, arith}
+use Rattle.std.proofs.Math.IntN.{nat_abs}
+use Rattle.std.proofs.lemmas.List.{length-map}
+use Rattle.toolkit.specs.Differences.{as_difference}
+use Rattle.toolkit.specs.Orders.{Ranged, to_naturals}
+use Rattle.frame.specs.Sites.{Frame, Colour, highest_sample}
+use Rattle.frame.specs.Calls.{Admitted, AdmittedAt}
+use Rattle.frame.proofs.Admission.{admitted_at_zero}
+use Rattle.method.specs.Planes.{output, less_black}
+use Rattle.method.specs.Gradients.{mosaic}
+use Rattle.method.specs.Comparison.{number_at, entry_at, brightened, KeepsRange, SumsAreSamples, taken_off, NoneBelow}
+use Rattle.method.proofs.FrameChanges.{number_is_output}
+use Rattle.method.proofs.FrameBrightness.{brightened_admitted, number_brightened, entry_brightened}
+
+-- ---- brightened frames
+
+-- a constant keeps the samples of f in range where the sums are samples, and those in range
+module _ (k : ℤ) (f : Frame) (a : Admitted (brightened k f)) (sums : SumsAreSamples k f) where
+  sum_in_range : (x : ℤ) (z : ℕ) → pos z ≡ x → z ≤ highest_sample → (pos 0 ≤ℤ x) × (x ≤ℤ pos highest_sample)
+  sum_in_range x z = rw (as_difference x) (simp to_naturals (omega arith))
+
+  pub sums_keep_range : KeepsRange k f
+  unfolding brightened
+  sums_keep_range n h =
+      sum_in_range _ _ (sums n h) (a.samples_in_range n (rw (length-map f.samples (λ z. nat_abs (pos z +ℤ k))) h))
+
+-- ---- b taken off beforehand
+
+less : (b z : ℕ) → b ≤ z → z - b ≡ nat_abs (pos z +ℤ neg_ℤ (pos b))
+less b z h = simp to_naturals (omega arith)
+
+less_each : (b : ℕ) (l : List ℕ) → ((n : ℕ) → n < length l → b ≤ get_or l n 0)
+    → map (λ z. z - b) l ≡ map (λ z. nat_abs (pos z +ℤ neg_ℤ (pos b))) l
+less_each b [] each = refl
+less_each b (z ∷ l) each = ap₂ ◌∷◌ (less b z (each zero (omega arith))) (less_each b l (λ n h. each (suc n) (omega arith)))
+
+-- it is the constant −b
+pub taken_off_is : (b : ℕ) (f : Frame) → NoneBelow b f → taken_off b f ≡ brightened (neg_ℤ (pos b)) f
+unfolding taken_off brightened
+taken_off_is b f none t = record {
+  width = f.width;
+  height = f.height;
+  phase = f.phase;
+  samples = less_each b f.samples none t;
+}
+
+module _ (b : ℕ) (f : Frame) (a : Admitted f) (none : NoneBelow b f) where
+  sample_less : (z : ℕ) → b ≤ z → z ≤ highest_sample
+      → (pos 0 ≤ℤ (pos z +ℤ neg_ℤ (pos b))) × ((pos z +ℤ neg_ℤ (pos b)) ≤ℤ pos highest_sample)
+  sample_less z h l = simp to_naturals (omega arith)
+
+  less_keeps_range : KeepsRange (neg_ℤ (pos b)) f
+  less_keeps_range n h = sample_less _ (none n h) (a.samples_in_range n h)
+
+  pub taken_off_admitted : AdmittedAt (taken_off b f) 0
+  taken_off_admitted =
+      rw (taken_off_is b f none) (admitted_at_zero _ (brightened_admitted (neg_ℤ (pos b)) f a less_keeps_range))
+
+  -- a number less 0 and with −b added is that number less b
+  less_zero : (v : ℤ) → less_black 0 v +ℤ neg_ℤ (pos b) ≡ less_black b v
+  unfolding less_black
+  less_zero v = rw (as_difference v) (simp to_naturals (omega arith))
+
+  pub number_taken_off : (c : Colour) (i j : ℕ) → i < f.height → j < f.width → number_at (taken_off b f) 0 c i j ≡ number_at f b c i j
+  number_taken_off c i j hi hj =
+      rw (taken_off_is b f none)
+      (number_brightened (neg_ℤ (pos b)) f a less_keeps_range 0 c i j hi hj
+      ∙ (ap (λ (x : ℤ). x +ℤ neg_ℤ (pos b)) (number_is_output f 0 c i j hi hj)
+      ∙ (less_zero (output (mosaic f) c i j) ∙ sym (number_is_output f b c i j hi hj))))
+
+  pub entry_taken_off : (i j : ℕ) → i < f.height → j < f.width → entry_at (taken_off b f) i j ≡ entry_at f i j
+  entry_taken_off i j hi hj = rw (taken_off_is b f none) (entry_brightened (neg_ℤ (pos b)) f a less_keeps_range i j hi hj)
+
+-- ---- the range
+
+pub range_less_black : (b : ℕ) (v : ℤ) → Ranged 2046 3069 v → ((negsuc 2045 -ℤ pos b) ≤ℤ less_black b v) × (less_black b v ≤ℤ (pos 3069 -ℤ pos b))
+unfolding less_black
+range_less_black b v = rw (as_difference v) (simp to_naturals (omega arith))

@@ -1,0 +1,17 @@
+pub mod ColourLaws
+pub mod GradientLaws
+pub mod GreenLaws
+pub mod MeanLaws
+pub mod SiteChanges
+pub mod Decisions
+pub mod MeanChanges
+pub mod MosaicChanges
+pub mod Acceptance
+pub mod FrameChanges
+pub mod ChangeLists
+pub mod Brightness
+pub mod Range
+pub mod Sizes
+pub mod FrameBrightness
+pub mod BlackLevel
+pub mod Demand3
