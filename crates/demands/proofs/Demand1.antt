@@ -15,7 +15,8 @@ use Rattle.demands.specs.WhatCallsLeave.{Buffers, buffers, lengths_of, LengthsAl
 use Rattle.demands.proofs.Acceptance.{lengths_yes, yes_lengths}
 use Rattle.demands.specs.Conditions.{both_ways, equal_decides, by_condition}
 use Rattle.demands.specs.Rows.{RowOfWrite, RowOfDevelop, RowOfClamp}
-use Rattle.demands.proofs.Rows.{number_4, done, write_in_order, develop_in_order}
+use Rattle.demands.specs.Rows.{number_4, done}
+use Rattle.demands.proofs.Rows.{write_in_order, develop_in_order}
 use Rattle.demands.specs.ReadRows.{RowOfRead}
 use Rattle.demands.proofs.ReadRows.{reading_row}
 

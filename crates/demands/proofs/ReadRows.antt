@@ -7,14 +7,13 @@ use Rattle.std.proofs.Math.ListN.{length}
 use Rattle.frame.specs.declared.Refusal.{Refusal}
 use Rattle.frame.specs.declared.Refusal.TheVariants.{BufferLength, FileLength, Check, Header, BlockNumber, Filler}
 use Rattle.frame.specs.Sites.{Frame, phase_allowed}
-use Rattle.frame.specs.Calls.{Returned, success, number_and_place, returned_by_read}
+use Rattle.frame.specs.Calls.{number_and_place, returned_by_read}
 use Rattle.frame_file.specs.Lists.{part, all_zero, same_list, same_list_self, same_list_equal}
 use Rattle.frame_file.specs.FrameFile.{sample_count, block, block_number, check, stored_check, tag, has_tag, header, header_filler, payload, block_filler, block_count, file_length, unpacked_payload, stored_frame, Reading, refused, answer_of, tested, length_allowed, check_holds, number_holds, header_allowed, filler_holds, later_blocks, reading}
 use Rattle.frame_file.proofs.BlockCount.{some_blocks}
 use Rattle.frame_file.proofs.Raw10.{length_unpacked_payload}
 use Rattle.demands.specs.Conditions.{Decides, holds, both_ways, same_decides, both_decide, equal_decides, at_most_decides, side_decides, by_condition}
-use Rattle.demands.specs.Rows.{row, SidesAllowed}
-use Rattle.demands.specs.ReadRows.{LengthAllowed, CheckHolds, NumberHolds, HeaderAllowed, AllZero, HeaderFillerZero, CountHolds, RoomHolds, FillerZero, FrontHolds, BlockHolds, ComesTo, RowOfRead}
+use Rattle.demands.specs.ReadRows.{LengthAllowed, CheckHolds, NumberHolds, HeaderAllowed, AllZero, FillerZero, FrontHolds, BlockHolds, ComesTo, RowOfRead, done, number_10_first, number_10_later, number_4, number_6_count, number_6_length, number_7_first, number_7_later, number_8, number_9_first, number_9_later}
 
 -- ---- laws: lists
 

@@ -8,9 +8,9 @@ use Rattle.frame.specs.declared.Refusal.TheVariants.{Size, Phase, MosaicLength, 
 use Rattle.frame.specs.declared.Answer.{Answer}
 use Rattle.frame.specs.declared.Answer.TheVariants.{Done, Refused}
 use Rattle.frame.specs.Sites.{Frame, side_allowed, phase_allowed, highest_sample}
-use Rattle.frame.specs.Calls.{Returned, success, number_and_place, returned, tested, and_then, first_failing, samples_answer, answer_in_order, highest_black, black_answer, most_under, under_answer}
+use Rattle.frame.specs.Calls.{Returned, number_and_place, returned, tested, and_then, first_failing, samples_answer, answer_in_order, highest_black, black_answer, most_under, under_answer}
 use Rattle.demands.specs.Conditions.{Decides, same_decides, both_decide, equal_decides, at_most_decides, side_decides, by_condition}
-use Rattle.demands.specs.Rows.{row, SidesAllowed, RowOfWrite, RowOfDevelop, RowOfClamp}
+use Rattle.demands.specs.Rows.{SidesAllowed, RowOfWrite, RowOfDevelop, done, number_1, number_11, number_12, number_2, number_3, number_4, number_5}
 
 -- ---- laws: the sides
 

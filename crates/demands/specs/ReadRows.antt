@@ -1,18 +1,11 @@
 -- Document 01, the table "returned: number, place", for read: row by row with its condition, in the order in which read tests; and that
 -- what read answers is such a row. Assumes nothing.
-use Rattle.std.specs.Prelude.{◌≡◌, Bool, List, [], ◌∷◌, get_or, drop}
-use Rattle.std.proofs.Common.{ap, subst, sym, ◌∙◌, ⊎_elim, eq-or-lt_of_le, le_of_suc-le-suc, arith, length-drop, get_or-drop}
-use Prim.Native.Nat.{ℕ, zero, suc, ◌+◌, ◌*◌, ◌-◌, ◌%◌, ◌<◌, ◌≤◌}
+use Rattle.std.specs.Prelude.{◌≡◌, List, get_or}
+use Prim.Native.Nat.{ℕ, ◌+◌, ◌*◌, ◌-◌, ◌%◌, ◌<◌, ◌≤◌}
 use Rattle.std.proofs.Math.ListN.{length}
-use Rattle.frame.specs.declared.Refusal.{Refusal}
-use Rattle.frame.specs.declared.Refusal.TheVariants.{BufferLength, FileLength, Check, Header, BlockNumber, Filler}
-use Rattle.frame.specs.Sites.{Frame, phase_allowed}
-use Rattle.frame.specs.Calls.{Returned, success, number_and_place, returned_by_read}
-use Rattle.frame_file.specs.Lists.{part, all_zero, same_list, same_list_self, same_list_equal}
-use Rattle.frame_file.specs.FrameFile.{sample_count, block, block_number, check, stored_check, tag, has_tag, header, header_filler, payload, block_filler, block_count, file_length, unpacked_payload, stored_frame, Reading, refused, answer_of, tested, length_allowed, check_holds, number_holds, header_allowed, filler_holds, later_blocks, reading}
-use Rattle.frame_file.proofs.BlockCount.{some_blocks}
-use Rattle.frame_file.proofs.Raw10.{length_unpacked_payload}
-use Rattle.demands.specs.Conditions.{Decides, holds, both_ways, same_decides, both_decide, equal_decides, at_most_decides, side_decides, by_condition}
+use Rattle.frame.specs.Calls.{Returned, success}
+use Rattle.frame_file.specs.Lists.{part}
+use Rattle.frame_file.specs.FrameFile.{sample_count, block, block_number, check, stored_check, tag, header_filler, payload, block_filler, block_count, file_length, unpacked_payload, stored_frame}
 use Rattle.demands.specs.Rows.{row, SidesAllowed}
 
 -- ---- the conditions; W, H and the phase are those of the header

@@ -1,15 +1,8 @@
 -- Document 01, the table "returned: number, place", for develop, write and clamp: row by row with its conditions, in document 02's order;
 -- and that what develop and write answer is such a row. `ReadRows` has the rows of read. Assumes nothing.
-use Rattle.std.specs.Prelude.{◌≡◌, Bool, ◌&&◌, ℕ, zero, suc, ◌+◌, ◌*◌, ◌<◌, ◌≤◌, length, get_or}
-use Rattle.std.proofs.Common.{subst, arith}
-use mathlib.Core.List.{List, [], ◌∷◌}
-use Rattle.frame.specs.declared.Refusal.{Refusal}
-use Rattle.frame.specs.declared.Refusal.TheVariants.{Size, Phase, MosaicLength, BufferLength, Sample, BlackLevel, UnderBlack}
-use Rattle.frame.specs.declared.Answer.{Answer}
-use Rattle.frame.specs.declared.Answer.TheVariants.{Done, Refused}
-use Rattle.frame.specs.Sites.{Frame, side_allowed, phase_allowed, highest_sample}
-use Rattle.frame.specs.Calls.{Returned, success, number_and_place, returned, tested, and_then, first_failing, samples_answer, answer_in_order, highest_black, black_answer, most_under, under_answer}
-use Rattle.demands.specs.Conditions.{Decides, same_decides, both_decide, equal_decides, at_most_decides, side_decides, by_condition}
+use Rattle.std.specs.Prelude.{◌≡◌, ℕ, ◌+◌, ◌*◌, ◌<◌, ◌≤◌, length, get_or}
+use Rattle.frame.specs.Sites.{Frame}
+use Rattle.frame.specs.Calls.{Returned, success}
 
 abbrev pub row : ℕ → ℕ → Returned
 row number place = record { number = number; place = place }

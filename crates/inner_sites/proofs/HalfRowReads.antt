@@ -10,6 +10,7 @@ use Rattle.sums.specs.Sums.{with_columns, with_rows, with_both}
 use Rattle.differences.specs.Rows.{straight_mean_read, corner_mean_read}
 use Rattle.out_rows.specs.DirectMeans.{own_mean, other_mean}
 use Rattle.out_rows.specs.declared.Places.{Places}
+use Rattle.inner_sites.specs.HalfRowReads.{WithinReach}
 use Rattle.inner_sites.specs.Distances.{differences_off, finals_off, greens_off, trials_off}
 use Rattle.inner_sites.proofs.StepDistances.{distances_in_figures}
 use Rattle.inner_sites.proofs.OwnColumns.{SameEntries, OwnSites, own_site, alike_site}
@@ -30,7 +31,7 @@ module _ (W c k : ℕ) (small : c ≤ 1) where
       )
 
   -- the sums of the second pass: step t adds the distances to r at 2·t columns off, and for FD those at 2·t rows off
-  module _ (t : ℕ) {row row' : List ℤ} (inner : Inner W greens_off (c + 2 * k)) (few : t ≤ reach) (alike : OwnSites W c row row') where
+  module _ (t : ℕ) {row row' : List ℤ} (inner : Inner W greens_off (c + 2 * k)) (few : WithinReach t) (alike : OwnSites W c row row') where
     trial : (x : ℕ) → (k + 4 ≤ x + t) × (x ≤ k + 4 + t) → get_or row x (pos 0) ≡ get_or row' x (pos 0)
     unfolding reach
     trial x h = alike_site inner (2 * t) c x small (omega (arith, distances_in_figures)) (omega arith) (omega arith) alike

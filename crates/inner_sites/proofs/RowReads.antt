@@ -3,17 +3,16 @@
 use Rattle.std.specs.Prelude.{◌≡◌, List, ℕ, ◌+◌, ◌-◌, ◌<◌, ◌≤◌}
 use Rattle.std.proofs.Common.{arith}
 use Rattle.std.proofs.Math.ListN.{get_or}
-use Rattle.frame.specs.InnerSites.{Inner}
 use Rattle.east_rows.specs.RowSums.{along_at, east_at}
 use Rattle.south_rows.specs.SevenRows.{column_pair, down_pair, north_sum}
 use Rattle.south_rows.specs.SevenRowLaws.{pair_is}
 use Rattle.first_pass.specs.Lines.{across_difference, down_difference}
-use Rattle.inner_sites.specs.Distances.{trials_off}
+use Rattle.inner_sites.specs.RowReads.{TrialColumn}
 use Rattle.inner_sites.proofs.StepDistances.{distances_in_figures}
 use Rattle.inner_sites.proofs.OwnColumns.{OwnColumns, alike_near}
 
 -- column j stands at entry j + 8, and is one of those at which trial differences are read for an inner site
-module _ {W j : ℕ} (inner : Inner W trials_off j) where
+module _ {W j : ℕ} (inner : TrialColumn W j) where
   -- an entry to four columns off, of the row that starts at entry at
   near : (at y : ℕ) {rows rows' : List ℕ} → OwnColumns W at rows rows' → (at + j + 4 ≤ y) × (y ≤ at + j + 12)
       → get_or rows y 0 ≡ get_or rows' y 0
