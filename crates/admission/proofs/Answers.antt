@@ -1,9 +1,9 @@
 -- What the tests of a shape, of a black level and of a count answer at each return. Assumes nothing.
 use mathlib.Core.Path.{◌≡◌, sym, ◌∙◌}
-use mathlib.Core.Bool.{Bool, true, false, not}
+use mathlib.Core.Bool.{Bool, true, false}
 use Prim.Native.Nat.{ℕ, ◌*◌, ◌≤◌, ◌<◌}
 use lib.Dec.{leb}
-use borrow.Author.Tests.{not-true, not-false, ne_eqb}
+use borrow.Author.Tests.{ne_eqb}
 use Rattle.toolkit.specs.Tests.{leb_yes, leb_no, eqb_yes}
 use Rattle.frame.specs.declared.Shape.{Shape}
 use Rattle.frame.specs.declared.Refusal.TheVariants.{Size, Phase, MosaicLength, BlackLevel}
@@ -29,35 +29,35 @@ side_between n l h = rw (leb_yes {m = 2} {n = n} l, leb_yes {m = n} {n = 4096} h
 -- ---- a shape
 
 module _ (shape : Shape) {w : Bool} (ew : w ≡ side_allowed shape.width) where
-  pub width_out : not w ≡ true → false ≡ shape_allowed shape
+  pub width_out : w ≡ false → false ≡ shape_allowed shape
   unfolding shape_allowed
-  width_out h = rw (sym ew ∙ not-true w h)
+  width_out h = rw (sym ew ∙ h)
 
-  pub width_refused : not w ≡ true → Refused Size ≡ shape_answer shape
+  pub width_refused : w ≡ false → Refused Size ≡ shape_answer shape
   unfolding shape_answer
-  width_refused h = rw (sym ew ∙ not-true w h)
+  width_refused h = rw (sym ew ∙ h)
 
-  module _ (hw : not w ≡ false) {t : Bool} (et : t ≡ side_allowed shape.height) where
-    pub height_out : not t ≡ true → false ≡ shape_allowed shape
+  module _ (hw : w ≡ true) {t : Bool} (et : t ≡ side_allowed shape.height) where
+    pub height_out : t ≡ false → false ≡ shape_allowed shape
     unfolding shape_allowed
-    height_out h = rw (sym ew ∙ not-false w hw, sym et ∙ not-true t h)
+    height_out h = rw (sym ew ∙ hw, sym et ∙ h)
 
-    pub height_refused : not t ≡ true → Refused Size ≡ shape_answer shape
+    pub height_refused : t ≡ false → Refused Size ≡ shape_answer shape
     unfolding shape_answer
-    height_refused h = rw (sym ew ∙ not-false w hw, sym et ∙ not-true t h)
+    height_refused h = rw (sym ew ∙ hw, sym et ∙ h)
 
-    module _ (ht : not t ≡ false) where
+    module _ (ht : t ≡ true) where
       pub by_phase : leb shape.phase 3 ≡ shape_allowed shape
       unfolding shape_allowed phase_allowed
-      by_phase = rw (sym ew ∙ not-false w hw, sym et ∙ not-false t ht)
+      by_phase = rw (sym ew ∙ hw, sym et ∙ ht)
 
       pub phase_refused : 3 < shape.phase → Refused Phase ≡ shape_answer shape
       unfolding shape_answer phase_allowed
-      phase_refused h = rw (sym ew ∙ not-false w hw, sym et ∙ not-false t ht, leb_no h)
+      phase_refused h = rw (sym ew ∙ hw, sym et ∙ ht, leb_no h)
 
       pub shape_done : shape.phase ≤ 3 → Done ≡ shape_answer shape
       unfolding shape_answer phase_allowed
-      shape_done h = rw (sym ew ∙ not-false w hw, sym et ∙ not-false t ht, leb_yes h)
+      shape_done h = rw (sym ew ∙ hw, sym et ∙ ht, leb_yes h)
 
 -- ---- a black level
 

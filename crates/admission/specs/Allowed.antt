@@ -30,7 +30,7 @@ pub count_passes : (shape : Shape) (count : ℕ) → count_answer shape count �
 unfolding count_answer
 count_passes shape count e = eqb_eq _ _ (tested_done _ MosaicLength _ e).0
 
--- W-as-H of such a shape
+-- W·H of such a shape
 pub count_most : (shape : Shape) (count : ℕ) → shape_answer shape ≡ Done → count_answer shape count ≡ Done → count ≤ 16777216
 count_most shape count s e =
     let a = shape_passes shape s in

@@ -1,4 +1,6 @@
 // The tests of a shape, a black level and a mosaic's samples, for the calls that take a frame or read one.
+#![tactic(auto)]
+
 ghost use Rattle.std.specs.Prelude.{◌≡◌, ◌*◌, ◌≤◌};
 ghost use Rattle.frame.specs.Sites.{side_allowed};
 ghost use Rattle.frame.specs.Calls.{samples_answer, black_answer, under_answer};

@@ -1,4 +1,6 @@
 // The published calls under plain names, for Rust, and by bayer_c for C. Each answers every input.
+#![tactic(auto)]
+
 ghost use Rattle.std.specs.Prelude.{◌≡◌, length};
 ghost use Rattle.frame.specs.Sites.{frame as frame_of, Colour};
 ghost use Rattle.frame.specs.Calls.{number_and_place, develop_answer, clamp_answer, clamped as clamped_plane, after};

@@ -1,4 +1,6 @@
 // One block of the frame file: its numbers, its check, its tag, its payload.
+#![tactic(auto)]
+
 ghost use Rattle.std.specs.Prelude.{◌≡◌, ◌+◌, ◌*◌, ◌<◌, ◌≤◌, length, get_or};
 ghost use Rattle.frame_file.specs.Lists.{part};
 ghost use Rattle.frame_file.specs.FrameFile.{little_endian, little_endian_bytes, check, has_tag, payload as payload_of, block_count};

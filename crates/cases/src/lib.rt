@@ -1,1 +1,2 @@
 // A library of specs/ alone: the glaze cases of document 01, as one table.
+#![tactic(auto)]

@@ -1,4 +1,6 @@
 // Holds every number of a plane to 0..1,023.
+#![tactic(auto)]
+
 ghost use Rattle.std.specs.Prelude.{◌≡◌, length};
 ghost use Rattle.frame.specs.Calls.{held, clamped as clamped_plane, clamp_answer, after};
 

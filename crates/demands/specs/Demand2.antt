@@ -31,7 +31,7 @@ module _ (f : Frame) (b : ℕ) (before : Buffers) where
   planes_left Done left call e blue = call.blue_left
   planes_left (Refused why) left call e c = refused_not_done why (returned_done (Refused why) e)
 
-  -- W-as-H entries, of which i·W + j is the method's number at (i,j); document 02, A2: less b
+  -- W·H entries, of which i·W + j is the method's number at (i,j); document 02, A2: less b
   pub numbers_left : (answer : Answer) (left : Buffers) → DevelopLeaves f b before answer left → returned answer ≡ success
       → (c : Colour)
       → (length (plane_of left c) ≡ f.height * f.width) ×
@@ -48,7 +48,7 @@ module _ (f : Frame) (b : ℕ) (before : Buffers) where
   decisions_left Done left call e = call.map_left
   decisions_left (Refused why) left call e = refused_not_done why (returned_done (Refused why) e)
 
-  -- W-as-H entries, of which i·W + j is the code of the method's decision at (i,j)
+  -- W·H entries, of which i·W + j is the code of the method's decision at (i,j)
   pub entries_left : (answer : Answer) (left : Buffers) → DevelopLeaves f b before answer left → returned answer ≡ success
       → (length left.map ≡ f.height * f.width) ×
       ((i j : ℕ) → i < f.height → j < f.width → get_or left.map (i * f.width + j) 0 ≡ decision_entry (mosaic f) i j)

@@ -13,17 +13,17 @@ use Rattle.bayer.specs.declared.Returned.{Returned}
 use Rattle.bayer.specs.declared.ReadReturned.{ReadReturned}
 use Rattle.bayer.specs.Exports.{Exported, ReadExported}
 use Rattle.bayer.specs.contracts.bayer_develop as develop
-use Rattle.bayer.proofs.bayer_develop.Kinds as develop-kinds
-use Rattle.bayer.proofs.bayer_develop.Reads as develop-contract
+use Rattle.bayer.proofs.bayer_develop.Kinds as develop_kinds
+use Rattle.bayer.proofs.bayer_develop.Reads as develop_contract
 use Rattle.bayer.specs.contracts.bayer_clamp as clamp
-use Rattle.bayer.proofs.bayer_clamp.Kinds as clamp-kinds
-use Rattle.bayer.proofs.bayer_clamp.Reads as clamp-contract
+use Rattle.bayer.proofs.bayer_clamp.Kinds as clamp_kinds
+use Rattle.bayer.proofs.bayer_clamp.Reads as clamp_contract
 use Rattle.bayer.specs.contracts.bayer_read as read
-use Rattle.bayer.proofs.bayer_read.Kinds as read-kinds
-use Rattle.bayer.proofs.bayer_read.Reads as read-contract
+use Rattle.bayer.proofs.bayer_read.Kinds as read_kinds
+use Rattle.bayer.proofs.bayer_read.Reads as read_contract
 use Rattle.bayer.specs.contracts.bayer_write as write
-use Rattle.bayer.proofs.bayer_write.Kinds as write-kinds
-use Rattle.bayer.proofs.bayer_write.Reads as write-contract
+use Rattle.bayer.proofs.bayer_write.Kinds as write_kinds
+use Rattle.bayer.proofs.bayer_write.Reads as write_contract
 use Rattle.demands.specs.WhatCallsLeave.{Buffers, buffers, lengths_of, DevelopLeaves, ClampLeaves, ReadLeaves, WriteLeaves}
 
 -- bayer_clamp(plane, clamped)

@@ -1,5 +1,5 @@
 pub mod WhatCallsLeave
-pub mod Contracts
+pub mod CallContracts
 pub mod Exports
 pub mod Conditions
 pub mod Rows

@@ -1,1 +1,2 @@
 // A library of specs/ alone: the three demands over what the published calls return and leave.
+#![tactic(auto)]

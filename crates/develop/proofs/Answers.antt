@@ -1,10 +1,10 @@
 -- What develop's tests answer at each of their returns. Assumes nothing.
 use mathlib.Core.Path.{◌≡◌, refl, sym, ◌∙◌, ap}
-use mathlib.Core.Bool.{Bool, true, false, not}
+use mathlib.Core.Bool.{Bool, true, false}
 use mathlib.Core.List.{List}
 use Prim.Native.Nat.{ℕ, ◌*◌, ◌<◌, ◌≤◌}
 use lib.ListN.{length}
-use borrow.Author.Tests.{not-true, not-false, ne_eqb}
+use borrow.Author.Tests.{ne_eqb}
 use Rattle.toolkit.specs.Tests.{eqb_yes, leb_yes, leb_no}
 use Rattle.frame.specs.declared.Shape.{Shape}
 use Rattle.frame.specs.declared.Refusal.{Refusal}
@@ -107,15 +107,15 @@ module _ (shape : Shape) (b : ℕ) (mosaic : List ℕ) (l : Lengths) where
     allowed_is : lengths_allowed (frame shape mosaic) l ≡ t
     unfolding lengths_allowed
     allowed_is =
-        ap (λ (n : ℕ). lengths_fit n l) (sym (count_passes shape (length mosaic) (first_passes shape b (length mosaic) done).count-passes))
+        ap (λ (n : ℕ). lengths_fit n l) (sym (count_passes shape (length mosaic) (first_passes shape b (length mosaic) done).count_passes))
         ∙ sym fit
 
-    pub lengths_refused : not t ≡ true → Refused BufferLength ≡ answer
-    lengths_refused h = sym (answer_is ∙ rw (done, allowed_is ∙ not-true t h))
+    pub lengths_refused : t ≡ false → Refused BufferLength ≡ answer
+    lengths_refused h = sym (answer_is ∙ rw (done, allowed_is ∙ h))
 
-    module _ (h : not t ≡ false) where
+    module _ (h : t ≡ true) where
       pub samples_refused : (why : Refusal) → samples_answer mosaic ≡ Refused why → Refused why ≡ answer
-      samples_refused why e = sym (answer_is ∙ rw (done, allowed_is ∙ not-false t h, e))
+      samples_refused why e = sym (answer_is ∙ rw (done, allowed_is ∙ h, e))
 
       pub under_tested : samples_answer mosaic ≡ Done → (a : Answer) → a ≡ under_answer b mosaic → a ≡ answer
-      under_tested e a u = u ∙ sym (answer_is ∙ rw (done, allowed_is ∙ not-false t h, e))
+      under_tested e a u = u ∙ sym (answer_is ∙ rw (done, allowed_is ∙ h, e))

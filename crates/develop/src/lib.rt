@@ -1,4 +1,6 @@
 // Develops a frame at a black level: the refusals in order, and then the three planes and the map by one sweep over the rows.
+#![tactic(auto)]
+
 ghost use Rattle.std.specs.Prelude.{◌≡◌, ◌*◌, ◌≤◌};
 ghost use Rattle.frame.specs.Sites.{frame as frame_of, Colour};
 ghost use Rattle.frame.specs.Calls.{and_then, black_answer, lengths_fit, develop_answer, after};

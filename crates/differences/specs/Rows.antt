@@ -1,5 +1,5 @@
 -- What the rows of means read, entry by entry. Definitions alone. Assumes nothing.
-use Rattle.std.specs.Prelude.{List, [], ◌∷◌, ℕ, ◌+◌, ◌<◌, ◌≤◌, ℤ, pos, get_or}
+use Rattle.std.specs.Prelude.{List, [], ◌∷◌, ℕ, ◌+◌, ◌<◌, ℤ, pos, get_or}
 use Rattle.method.specs.Four.{directions, sizes}
 use Rattle.method.specs.Planes.{weighted_mean, corner_gradients}
 use Rattle.method.specs.Sizes.{AtMost}

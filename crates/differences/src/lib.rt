@@ -1,4 +1,6 @@
 // The differences of green and a colour at red and blue sites: the final one, and that of the other colour.
+#![tactic(auto)]
+
 ghost use Rattle.std.specs.Prelude.{◌≡◌, List, ℕ, ◌+◌, ◌*◌, ◌-◌, ◌<◌, ◌≤◌, pos, length, get_or};
 ghost use Rattle.toolkit.specs.Entries.{Entries};
 ghost use Rattle.toolkit.specs.Writes.{Wrote};

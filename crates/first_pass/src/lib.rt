@@ -1,4 +1,6 @@
 // The first pass at the red and blue sites of a row.
+#![tactic(auto)]
+
 ghost use Rattle.std.specs.Prelude.{◌≡◌, ℕ, ◌+◌, ◌*◌, ◌-◌, ◌<◌, ◌≤◌, pos, nat_abs, length};
 ghost use Rattle.toolkit.specs.Entries.{Entries};
 ghost use Rattle.toolkit.specs.Writes.{Wrote};
@@ -11,7 +13,7 @@ ghost use Rattle.first_pass.specs.Outcomes.{outcome_of, settled};
 ghost use Rattle.first_pass.specs.Trials.{tried, site_trial, site_code, TrialReads};
 
 // What the first pass answers of a site.
-#[derive(Drop)]
+#[derive(Clone, Copy)]
 pub enum FirstPass {
     Equal,
     Across,
@@ -133,7 +135,7 @@ fn code_of(o: FirstPass) -> u8
 }
 
 // What the first pass leaves of a site: r_D, r_V, and the code of how its green was found.
-#[derive(Drop)]
+#[derive(Clone, Copy)]
 pub struct Trial {
     pub diagonal: i32,
     pub vertical: i32,

@@ -1,4 +1,6 @@
 // The first two stages of the sweep: load, a row of the mosaic and its a; first, E, S, r_D, r_V and the codes of a row from the loaded rows.
+#![tactic(auto)]
+
 ghost use Rattle.std.specs.Prelude.{◌≡◌, List, ℕ, ◌+◌, ◌*◌, ◌<◌, length};
 ghost use Rattle.frame.specs.Sites.{frame};
 ghost use Rattle.method.specs.Green.{vertical, diagonal};

@@ -16,7 +16,7 @@ use Rattle.frame_file.specs.Lists.{part, joined, zeros, all_zero, same_list}
 abbrev pub shape_of : Frame → Shape
 shape_of f = record { width = f.width; height = f.height; phase = f.phase }
 
--- W-as-H
+-- W·H
 abbrev pub sample_count : Frame → ℕ
 sample_count f = f.height * f.width
 
@@ -92,7 +92,7 @@ filled_up samples = samples ++ zeros (samples_per_block - length samples)
 unfoldable pub block_samples : List ℕ → ℕ → List ℕ
 block_samples samples n = filled_up (part samples (samples_per_block * (n - 1)) samples_per_block)
 
--- "so the count of blocks is 1 more than W·H/400 rounded up.", for W-as-H samples
+-- "so the count of blocks is 1 more than W·H/400 rounded up.", for W·H samples
 unfoldable pub block_count : ℕ → ℕ
 block_count samples = 1 + (samples + (samples_per_block - 1)) / samples_per_block
 
@@ -205,7 +205,7 @@ later_blocks file f n (suc left) =
     (later_blocks file f (suc n) left)))
 
 -- "Read tests length, then block 0 for 7, 9, 8, 10, then the count (6), then 4, then blocks 1, 2, .. each for 7, 9, 10."; "Read needs
--- W-as-H entries or more": `room` is how many it is lent
+-- W·H entries or more": `room` is how many it is lent
 unfoldable pub reading : List ℕ → ℕ → Reading
 reading file room =
     let f : Frame = stored_frame file in

@@ -1,4 +1,4 @@
--- What read leaves, as the program lends it on: the frame of its shape and of the first W-as-H samples. Assumes nothing.
+-- What read leaves, as the program lends it on: the frame of its shape and of the first W·H samples. Assumes nothing.
 use Rattle.std.specs.Prelude.{◌≡◌, ℕ, ◌*◌, ◌-◌, ◌<◌, ◌≤◌, length, take, drop}
 use Rattle.std.proofs.Math.Path.{refl, subst}
 use Rattle.std.proofs.Common.{sym, ◌∙◌, ap, arith, take_at}
@@ -16,7 +16,7 @@ use Rattle.frame_file.specs.BlockSamples.{length_stored_samples}
 use Rattle.frame_file.specs.ReadTests.{header_of_accepted, later_blocks_accepted}
 use Rattle.printing.specs.Printing.{black_level, lent, text_of_developed, refusal_text, text_of, printed}
 
--- the samples of an accepted frame are W-as-H, and there is room for them
+-- the samples of an accepted frame are W·H, and there is room for them
 pub record Counted (f : Frame) (room : ℕ) : Type 0 where
   pub enough : sample_count f ≤ room
   pub full : length f.samples ≡ sample_count f

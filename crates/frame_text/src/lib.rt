@@ -1,4 +1,6 @@
 // The text that the program prints of a file, composed into a lent buffer.
+#![tactic(auto)]
+
 ghost use Rattle.std.specs.Prelude.{◌≡◌, ◌+◌, ◌*◌, ◌<◌, ◌≤◌, length};
 ghost use Rattle.frame.specs.Sites.{frame as frame_of};
 ghost use Rattle.frame.specs.Calls.{develop_answer, clamped};

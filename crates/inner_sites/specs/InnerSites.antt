@@ -10,11 +10,11 @@ use contract.Lifetimes.{Lfts}
 use borrow.Fn.World.{ArgsD, ResD}
 use borrow.Fn.Kinds.{ended_of}
 use denote.Triple.Clauses.{AtExit}
-use Rattle.positions.specs.contracts.row_near as row_Near
-use Rattle.positions.proofs.row_near.Kinds as row-near-kinds
-use Rattle.positions.proofs.row_near.Reads as row-near-contract
+use Rattle.positions.specs.contracts.row_near as row_near
+use Rattle.positions.proofs.row_near.Kinds as row_near_kinds
+use Rattle.positions.proofs.row_near.Reads as row_near_contract
 use Rattle.positions.specs.contracts.edge_row as edge_row
-use Rattle.positions.proofs.edge_row.Reads as edge-row-contract
+use Rattle.positions.proofs.edge_row.Reads as edge_row_contract
 use Rattle.toolkit.specs.Differences.{as_difference}
 use Rattle.toolkit.specs.Orders.{to_naturals}
 use Rattle.frame.specs.Sites.{Frame, Colour, around}
@@ -122,7 +122,7 @@ module _ (f f' : Frame) (i j i' j' : ℕ) (far : FarFromEdges f i j) (far' : Far
 -- it reads, a stage hands over 0, `differences_off`, `finals_off` or `greens_off`; first hands over the row two below with `trials_off` + 2
 
 -- where row x is read for a row i that is far from both edges, off rows away or less, `row_near` answers by adding and subtracting
-pub rows_by_adding : (κs : Lfts 0) (a : ArgsD row_Near.signature κs) (r : ResD row_Near.signature κs)
+pub rows_by_adding : (κs : Lfts 0) (a : ArgsD row_near.signature κs) (r : ResD row_near.signature κs)
     (s : AtExit (ended_of 0 row_near_kinds.ps row_near_kinds.r) κs) → row_near_contract.Learnt κs a r s
     → (i : ℕ) → Inner a.0 0 i → Near a.1.1.1.1.0 i a.1.0
     → r ≡ a.1.0 + a.1.1.0 - a.1.1.1.0

@@ -1,4 +1,6 @@
 // The weighted mean of four values under four gradients, E, W, S, N, with one unsigned division.
+#![tactic(auto)]
+
 ghost use Rattle.std.specs.Prelude.{◌≡◌, [], ◌∷◌, ◌+◌, ◌*◌, ◌^◌, ◌≤◌, ◌<◌, pos, nat_abs};
 ghost use Rattle.toolkit.specs.Rounding.{round_half_up};
 ghost use Rattle.method.specs.Planes.{weighted_mean, one_if_zero};

@@ -1,4 +1,6 @@
 // Rows of the mosaic, each between eight reflected columns on each side, in an array of 24 rows of 4,112 entries that is used as a ring.
+#![tactic(auto)]
+
 ghost use Rattle.std.specs.Prelude.{◌≡◌, ℕ, ◌+◌, ◌*◌, ◌<◌, ◌≤◌, length, get_or};
 ghost use Rattle.toolkit.specs.Writes.{Wrote};
 ghost use Rattle.frame.specs.Sites.{frame};

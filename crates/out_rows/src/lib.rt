@@ -1,4 +1,6 @@
 // The loops of the last stage: samples, means and outputs in half rows, and two half rows woven to a row of a plane.
+#![tactic(auto)]
+
 ghost use Rattle.std.specs.Prelude.{◌≡◌, [], ◌∷◌, ℕ, ◌+◌, ◌*◌, ◌-◌, ◌≤◌, pos, nat_abs, ◌+ℤ◌, ◌-ℤ◌, ◌*ℤ◌, length, get_or};
 ghost use Rattle.toolkit.specs.Entries.{Entries};
 ghost use Rattle.toolkit.specs.Writes.{Wrote};
@@ -14,14 +16,14 @@ ghost use Rattle.out_rows.specs.DirectMeans.{own_mean, other_mean, DirectReads};
 use frame::Shape;
 
 // Where the differences of a row start in work: the final ones, and those of the other colour.
-#[derive(Drop)]
+#[derive(Clone, Copy)]
 pub struct Differences {
     pub finals: usize,
     pub others: usize,
 }
 
 // The halves of a row, and where the numbers start in work that its outputs are formed from.
-#[derive(Drop)]
+#[derive(Clone, Copy)]
 pub struct Places {
     // the first red or blue column, how many of them the row has, and how many green ones
     pub start: usize,

@@ -1,4 +1,6 @@
 // The last stage of the sweep: the three numbers of every site of a row, from its samples and both differences of the rows i and one off.
+#![tactic(auto)]
+
 ghost use Rattle.std.specs.Prelude.{◌≡◌, List, ℕ, ◌+◌, ◌*◌, ◌≤◌, pos, nat_abs, length};
 ghost use Rattle.frame.specs.Sites.{Colour, frame};
 ghost use Rattle.positions.specs.Taken.{SomeSamples};

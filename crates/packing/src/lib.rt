@@ -1,4 +1,6 @@
 // RAW10 packing: four samples in five bytes, by shifts and masks.
+#![tactic(auto)]
+
 ghost use Rattle.std.specs.Prelude.{◌≡◌, ◌+◌, ◌*◌, ◌%◌, ◌≤◌, length};
 ghost use Rattle.frame_file.specs.Lists.{Below, put_at};
 ghost use Rattle.frame_file.specs.FrameFile.{packed, unpacked};
@@ -54,5 +56,5 @@ pub fn store_bytes(to: &mut [u8], at: usize, source: &[u8])
     ensures { to.new ≡ put_at to.old at source.now }
 {
     let end = at + source.len();
-    bytes::copy(source, &mut to[at..end]);
+    to[at..end].copy_from_slice(source);
 }

@@ -1,4 +1,6 @@
 // A payload: 400 samples in 500 bytes, 100 groups of four samples in five bytes.
+#![tactic(auto)]
+
 ghost use Rattle.std.specs.Prelude.{◌≡◌, ◌*◌, ◌<◌, ◌≤◌, length, get_or, set, take, drop};
 ghost use Rattle.std.proofs.lemmas.List.Edits.{sets};
 ghost use Rattle.frame_file.specs.Lists.{Below, part, all_zero};

@@ -1,4 +1,6 @@
 // Positions: reflection outside a line, the columns of a half row, and the places of rows in a ring.
+#![tactic(auto)]
+
 ghost use Rattle.std.specs.Prelude.{◌≡◌, ◌+◌, ◌*◌, ◌-◌, ◌<◌, ◌≤◌, pos};
 ghost use Rattle.std.proofs.Math.IntN.{sub_ℕ};
 ghost use Rattle.frame.specs.Sites.{reflect};

@@ -1,9 +1,32 @@
 // Reads a frame file from standard input and prints its frame, developed and clamped, or why it is refused. At most 2,049 bytes are
 // read: one more than a file may have, so that a longer one is seen, and endless input ends.
-fn main() {
+#![tactic(auto)]
+
+ghost use Rattle.std.specs.Prelude.{length};
+ghost use Rattle.std.specs.Io.{ReadsAtMost};
+
+use std::io;
+use std::io::Read;
+
+// Reads until the buffer is full, the input ends or a read fails, and answers how many bytes it put at the front of the buffer.
+fn read_full(input: &mut impl Read, file: &mut [u8]) -> io::Result<usize>
+    ensures { ReadsAtMost result file.new }
+{
+    let mut length = 0;
+    while length < file.len() {
+        let count = input.read(&mut file[length..])?;
+        if count == 0 {
+            break;
+        }
+        length += count;
+    }
+    Ok(length)
+}
+
+fn main(rt: HostRuntime) -> io::Result<()> {
     let mut file = [0u8; 2049];
-    let length = io::read_full(0, &mut file);
+    let length = read_full(&mut rt.stdin(), &mut file)?;
     let mut text = [0u8; 25623];
     let end = frame_text::compose(&file[..length], &mut text);
-    io::write_all(1, &text[..end]);
+    rt.write_all(&text[..end])
 }

@@ -1,1 +1,2 @@
 // A library of specs/ alone: what the program prints.
+#![tactic(auto)]

@@ -1,12 +1,12 @@
 -- What the reader's tests answer at each of their returns. Assumes nothing.
 use mathlib.Core.Path.{◌≡◌, sym, ◌∙◌, ap}
-use mathlib.Core.Bool.{Bool, true, false, not}
+use mathlib.Core.Bool.{Bool, true, false}
 use mathlib.Core.List.{List}
 use Prim.Native.Nat.{ℕ, suc, ◌+◌, ◌*◌, ◌-◌, ◌%◌, ◌≤◌, ◌<◌}
 use native.Mathlib.Numerals.{add-one}
 use native.Mathlib.Omega.{arith}
 use lib.ListN.{length, get_or, take, drop}
-use borrow.Author.Tests.{ne_eqb, not-true, not-false}
+use borrow.Author.Tests.{ne_eqb}
 use Rattle.toolkit.specs.Tests.{leb_yes, leb_no, eqb_yes}
 use Rattle.frame.specs.declared.Shape.{Shape}
 use Rattle.frame.specs.declared.Refusal.{Refusal}
@@ -31,27 +31,27 @@ zero_stop l k h e = all_zero_drop l k h ∙ rw (ne_eqb (get_or l k 0) 0 e)
 -- ---- block 0
 
 module _ (b : List ℕ) {t : Bool} (et : t ≡ has_tag b) where
-  pub tag_refused : not t ≡ true → Refused Header ≡ header_answer b
+  pub tag_refused : t ≡ false → Refused Header ≡ header_answer b
   unfolding header_answer header_allowed
-  tag_refused h = rw (sym et ∙ not-true t h)
+  tag_refused h = rw (sym et ∙ h)
 
-  module _ (ht : not t ≡ false) {shape : Shape} (es : shape ≡ header b) {s : Bool} (e : s ≡ shape_allowed shape) where
+  module _ (ht : t ≡ true) {shape : Shape} (es : shape ≡ header b) {s : Bool} (e : s ≡ shape_allowed shape) where
     allowed_is : header_allowed b ≡ s
     unfolding header_allowed shape_allowed
-    allowed_is = rw (sym et ∙ not-false t ht) (sym (e ∙ ap shape_allowed es))
+    allowed_is = rw (sym et ∙ ht) (sym (e ∙ ap shape_allowed es))
 
-    pub shape_refused : not s ≡ true → Refused Header ≡ header_answer b
+    pub shape_refused : s ≡ false → Refused Header ≡ header_answer b
     unfolding header_answer
-    shape_refused h = rw (allowed_is ∙ not-true s h)
+    shape_refused h = rw (allowed_is ∙ h)
 
-    module _ (hs : not s ≡ false) {z : Bool} (ez : z ≡ all_zero (header_filler b)) where
-      pub filler_refused : not z ≡ true → Refused (Filler 0) ≡ header_answer b
+    module _ (hs : s ≡ true) {z : Bool} (ez : z ≡ all_zero (header_filler b)) where
+      pub filler_refused : z ≡ false → Refused (Filler 0) ≡ header_answer b
       unfolding header_answer
-      filler_refused h = rw (allowed_is ∙ not-false s hs, sym ez ∙ not-true z h)
+      filler_refused h = rw (allowed_is ∙ hs, sym ez ∙ h)
 
-      pub header_done : not z ≡ false → Done ≡ header_answer b
+      pub header_done : z ≡ true → Done ≡ header_answer b
       unfolding header_answer
-      header_done h = rw (allowed_is ∙ not-false s hs, sym ez ∙ not-false z h)
+      header_done h = rw (allowed_is ∙ hs, sym ez ∙ h)
 
 -- ---- the length, and block 0
 
@@ -101,22 +101,22 @@ module _ (file : List ℕ) (m n : ℕ) {answer : Answer}
     bytes_are : all_zero (block_filler (block file n)) ≡ z
     bytes_are = sym (ez ∙ ap all_zero (filler_slice file n))
 
-    pub bytes_refused : not z ≡ true → Refused (Filler n) ≡ later_answer file m n
+    pub bytes_refused : z ≡ false → Refused (Filler n) ≡ later_answer file m n
     unfolding later_answer filler_holds
-    bytes_refused h = rw (answer_is ∙ done, bytes_are ∙ not-true z h)
+    bytes_refused h = rw (answer_is ∙ done, bytes_are ∙ h)
 
-    module _ (hz : not z ≡ false) {p : List ℕ} (ep : p ≡ payload file n) {y : Bool}
+    module _ (hz : z ≡ true) {p : List ℕ} (ep : p ≡ payload file n) {y : Bool}
         (ey : y ≡ all_zero (drop (m - 400 * (n - 1)) (unpacked_payload p))) where
       samples_are : all_zero (drop (m - 400 * (n - 1)) (unpacked_payload (payload file n))) ≡ y
       samples_are = sym (ey ∙ ap (λ (l : List ℕ). all_zero (drop (m - 400 * (n - 1)) (unpacked_payload l))) ep)
 
-      pub samples_refused : not y ≡ true → Refused (Filler n) ≡ later_answer file m n
+      pub samples_refused : y ≡ false → Refused (Filler n) ≡ later_answer file m n
       unfolding later_answer filler_holds
-      samples_refused h = rw (answer_is ∙ done, bytes_are ∙ not-false z hz, samples_are ∙ not-true y h)
+      samples_refused h = rw (answer_is ∙ done, bytes_are ∙ hz, samples_are ∙ h)
 
-      pub later_done : not y ≡ false → Done ≡ later_answer file m n
+      pub later_done : y ≡ true → Done ≡ later_answer file m n
       unfolding later_answer filler_holds
-      later_done h = rw (answer_is ∙ done, bytes_are ∙ not-false z hz, samples_are ∙ not-false y h)
+      later_done h = rw (answer_is ∙ done, bytes_are ∙ hz, samples_are ∙ h)
 
 -- ---- blocks 1, 2, ..
 

@@ -1,4 +1,6 @@
 // Reads a frame file. All blocks are tested before the first sample is stored.
+#![tactic(auto)]
+
 ghost use Rattle.std.specs.Prelude.{◌≡◌, ◌+◌, ◌*◌, ◌-◌, ◌<◌, ◌≤◌, min, length};
 ghost use Rattle.frame_file.specs.Lists.{all_zero};
 ghost use Rattle.frame_file.specs.FrameFile.{header, block_count, stored_samples, read_answer, samples_after_read};

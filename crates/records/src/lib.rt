@@ -1,4 +1,6 @@
 // Where the parts of a row's record start in work. The records share 24 places; base is a row at place 0.
+#![tactic(auto)]
+
 ghost use Rattle.std.specs.Prelude.{◌≡◌, ◌+◌, ◌*◌, ◌≤◌};
 ghost use Rattle.positions.specs.Rings.{place_in_ring, Round};
 ghost use Rattle.records.specs.Layout.{record_size, south_part, final_part, other_part};

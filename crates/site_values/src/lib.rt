@@ -1,4 +1,6 @@
 // The last numbers of a site: the gradients of its corners, its final difference and its outputs.
+#![tactic(auto)]
+
 ghost use Rattle.std.specs.Prelude.{◌≡◌, ◌≤◌, pos, nat_abs, ◌+ℤ◌, ◌-ℤ◌, ◌*ℤ◌};
 ghost use Rattle.method.specs.Planes.{corner_gradients, fused, final_round};
 ghost use Rattle.method.specs.Four.{directions, sizes, listed};

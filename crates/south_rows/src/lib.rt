@@ -1,4 +1,6 @@
 // The gradients down the columns: N of a row, from the seven local rows about the one two rows up.
+#![tactic(auto)]
+
 ghost use Rattle.std.specs.Prelude.{◌≡◌, ℕ, ◌+◌, ◌≤◌, pos, length};
 ghost use Rattle.toolkit.specs.Entries.{Entries};
 ghost use Rattle.south_rows.specs.SevenRows.{column_pair, down_pair, north_sum};

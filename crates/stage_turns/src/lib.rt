@@ -1,4 +1,6 @@
 // The turns of the stages: at step t a stage works on the row at its own distance behind, where that is a row of the frame.
+#![tactic(auto)]
+
 ghost use Rattle.std.specs.Prelude.{◌≡◌, List, ℕ, ◌*◌, ◌≤◌, length};
 ghost use Rattle.frame.specs.Sites.{Colour, frame};
 ghost use Rattle.positions.specs.Taken.{Taken, SomeSamples};

@@ -5,7 +5,7 @@ use Rattle.frame.specs.Sites.{Frame, frame, Around, around}
 use Rattle.frame.specs.declared.Shape.{Shape}
 use Rattle.method.specs.Gradients.{apart, exchanged}
 use Rattle.method.specs.Green.{horizontal, vertical, diagonal, sum_about}
-use Rattle.positions.specs.HalfRows.{chroma_start, chroma_count, chroma_row, Half}
+use Rattle.positions.specs.HalfRows.{chroma_start, chroma_count, Half}
 use Rattle.records.specs.Quantities.{trials}
 use Rattle.records.specs.Stages.{ChromaHeld, SecondReads}
 use Rattle.half_rows.specs.Sources.{Sized}

@@ -1,4 +1,6 @@
 // The sums of the second pass, over half rows.
+#![tactic(auto)]
+
 ghost use Rattle.std.specs.Prelude.{◌≡◌, List, ℕ, ◌+◌, ◌*◌, ◌-◌, ◌<◌, ◌≤◌, pos, nat_abs, ◌+ℤ◌, length};
 ghost use Rattle.toolkit.specs.Entries.{Entries};
 ghost use Rattle.frame.specs.Sites.{frame};

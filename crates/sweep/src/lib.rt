@@ -1,4 +1,6 @@
 // The sweep over the rows: a step is a turn of each stage.
+#![tactic(auto)]
+
 ghost use Rattle.std.specs.Prelude.{◌≡◌, ◌+◌, ◌*◌, ◌-◌, ◌≤◌, length};
 ghost use Rattle.frame.specs.Sites.{Colour, frame};
 ghost use Rattle.method.specs.Green.{decision_map};

@@ -1,4 +1,6 @@
 // Text composed into a lent buffer, from a position on. Each function answers the position behind what it put there.
+#![tactic(auto)]
+
 ghost use Rattle.std.specs.Prelude.{[], ◌∷◌, ◌++◌, ◌+◌, ◌≤◌, length};
 ghost use Rattle.printing.specs.Printing.{decimal, numbers_line, refusal_text};
 ghost use Rattle.text.specs.Put.{Put};

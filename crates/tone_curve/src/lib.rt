@@ -1,1 +1,2 @@
 // A library of specs/ alone: the square-root tone curve.
+#![tactic(auto)]

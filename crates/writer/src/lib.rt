@@ -1,4 +1,6 @@
 // Writes a frame file, block by block.
+#![tactic(auto)]
+
 ghost use Rattle.std.specs.Prelude.{◌≡◌, ◌+◌, ◌*◌, ◌-◌, ◌<◌, ◌≤◌, length};
 ghost use Rattle.frame.specs.Sites.{frame as frame_of};
 ghost use Rattle.frame_file.specs.Lists.{Below, part, zeros, put_at};

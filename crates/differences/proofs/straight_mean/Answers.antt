@@ -1,0 +1,33 @@
+-- `differences::straight_mean` meets its contract. Assumes nothing.
+use mathlib.Core.Path.{◌≡◌, ◌∙◌}
+use lib.Dec.{lit≤}
+use Rattle.toolkit.specs.Bounds.{fits, val}
+use Rattle.toolkit.specs.BoundRules.{vals}
+use Rattle.method.specs.Four.{same_four}
+use Rattle.method.specs.Sizes.{weaker}
+use Rattle.half_rows.specs.Reading.{as_read}
+use Rattle.means.specs.Lifts.{lifted_mean_fits}
+use Rattle.differences.specs.Rows.{straight_read}
+use Rattle.differences.proofs.straight_mean.Goals as goal
+use Rattle.differences.proofs.straight_mean.Goals.{After-values-v}
+
+values_are : (c : After-values-v) →
+    let a = c.args in
+    c.values-v.result ≡ straight_read a.l.now a.green.now a.below a.above a.k
+values_are c =
+    c.values-v.ensures
+    ∙ same_four (as_read c.values-arg-1.given) (as_read c.values-arg-2-1.given)
+    (as_read c.values-arg-3-1.given) (as_read c.values-arg-4-1.given)
+
+pub lifted_mean-requires : goal.lifted_mean-requires
+lifted_mean-requires c =
+    lifted_mean_fits 8192 40920 (rw (values_are (goal.at.lifted_mean-requires c).After-values-v) (weaker (lit≤ tt) (c.requires.values_fit.each _ c.requires.k_lt_count.0)))
+    (rw c.four.ensures (c.requires.gradients_fit.each _ c.requires.k_lt_count.0)) tt
+
+pub overflow_cast-result : goal.overflow_cast-result
+overflow_cast-result c = let h = c.lifted_mean.ensures.1 in fits (search vals depth 10) tt
+
+pub returns : goal.returns
+returns c =
+    let h = c.lifted_mean.ensures.1 in
+    val (search vals depth 10) tt ∙ (rw (values_are (goal.at.returns c).After-values-v, c.four.ensures) at c.lifted_mean.ensures.0)

@@ -1,0 +1,33 @@
+-- `first_stage::gradient_line` meets its contract. E, and S behind it, are one store (`gradients_stored`). Assumes nothing.
+use Prim.Native.Nat.{◌+◌}
+use Rattle.frame.specs.Sites.{frame}
+use Rattle.south_rows.specs.NorthRows.{reads_two_down}
+use Rattle.first_stage.specs.GradientRows.{gradients_stored, south_room}
+use Rattle.first_stage.proofs.gradient_line.Goals as goal
+
+pub south_line-requires : goal.south_line-requires
+south_line-requires c =
+    let args = c.args in
+    let some = c.requires.some_samples in
+    let reads = some.holds in
+    record {
+      samples = some.samples;
+      row = args.i + 2;
+      reads = reads_two_down args.i reads.taken c.requires.c_value.0 reads.seven;
+      v_size = c.requires.v_len.0;
+      gradients_size = c.east_line.ensures.gradients_len_2;
+      room = south_room (frame args.shape some.samples) args.i _ reads.taken reads.inside c.requires.c_value.1
+          (c.east_line.ensures.east_stores.row some.samples reads) c.south_at.ensures;
+    }
+
+pub returns : goal.returns
+returns c =
+    let args = c.args in
+    let south = c.south_line.ensures in record {
+      gradients_formed = record {
+        row = λ zs reads. gradients_stored (frame args.shape zs) args.i _ (c.east_line.ensures.east_stores.row zs reads)
+            (south.south_stores.row zs (args.i + 2) (reads_two_down args.i reads.taken c.requires.c_value.0 reads.seven))
+            c.south_at.ensures;
+      };
+      v_len_2 = south.v_len;
+    }

@@ -1,0 +1,43 @@
+-- `first_stage::top_line` meets its contract. Where i is 2 or more, nothing is stored. Assumes nothing.
+use mathlib.Core.Path.{refl}
+use native.Mathlib.Omega.{arith}
+use Rattle.mosaic_rows.specs.RingRowLaws.{near_rows}
+use Rattle.first_stage.specs.RingReads.{top_reads}
+use Rattle.first_stage.proofs.top_line.Goals as goal
+
+pub seven_rows-at-requires : goal.seven_rows-at-requires
+seven_rows-at-requires c =
+    let lent = c.requires.some_samples.holds in
+    record {
+      le_h = (lent.taken.tall, lent.taken.low, omega (arith, lent.inside, lent.taken.low));
+      near_rows = near_rows lent _ (omega arith) (omega arith);
+    }
+
+pub south_line-requires : goal.south_line-requires
+south_line-requires c =
+    let some = c.requires.some_samples in
+    let size = c.requires.v_len in
+    record {
+      samples = some.samples;
+      row = c.args.i;
+      reads = top_reads some.holds c.requires.c_value c.seven_rows-at.ensures;
+      v_size = size.0;
+      gradients_size = size.1;
+      room = omega (arith, size.2, some.holds.taken.narrow, c.if-i-lt2.true);
+    }
+
+pub returns-then-i-lt2 : goal.returns-then-i-lt2
+returns-then-i-lt2 c =
+    let stored = c.south_line.ensures in record {
+      tops_formed = record {
+        row = λ zs lent. record {
+          here = λ h. stored.south_stores.row zs c.args.i (top_reads lent c.requires.c_value c.seven_rows-at.ensures);
+          late = λ h. absurd (omega (arith, c.if-i-lt2.true));
+        };
+      };
+      v_len_2 = stored.v_len;
+    }
+
+pub returns-else-i-lt2 : goal.returns-else-i-lt2
+returns-else-i-lt2 c =
+    let size = c.requires.v_len in record { tops_formed = record { row = λ zs lent. record { here = λ h. absurd (omega (arith, c.if-i-lt2.false)); late = λ h. refl } }; v_len_2 = (size.0, size.1) }
