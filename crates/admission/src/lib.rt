@@ -35,7 +35,7 @@ pub fn shape_in_range(shape: Shape) -> bool
     shape.phase <= 3
 }
 
-// W.H.
+// W·H.
 pub fn sample_count(shape: Shape) -> usize
     requires { (shape.width ≤ 4096) × (shape.height ≤ 4096) }
     ensures { (result ≡ shape.height * shape.width) × (result ≤ 16777216) }

@@ -77,7 +77,7 @@ fn export_read(answer: ReadAnswer) -> ReadReturned
     }
 }
 
-// Reads a frame file into `samples`, which has W.H entries or more; those past W.H stay.
+// Reads a frame file into `samples`, which has W·H entries or more; those past W·H stay.
 pub fn bayer_read(file: &[u8], samples: &mut [u16]) -> ReadReturned
     ensures answer { ReadExported (read_answer file.now (length samples.old)) result }
     ensures left { samples.new ≡ samples_after_read file.now samples.old }
@@ -102,7 +102,7 @@ pub fn bayer_clamp(plane: &[i32], clamped: &mut [i32]) -> Returned
     export_answer(clamp::clamp(plane, clamped))
 }
 
-// Develops a frame at a black level into three planes and the decision map, of W.H entries each, with a work buffer of 4·W·H entries or
+// Develops a frame at a black level into three planes and the decision map, of W·H entries each, with a work buffer of 4·W·H entries or
 // more, which may hold anything after success.
 pub fn bayer_develop(
     shape: Shape,

@@ -13,7 +13,7 @@ ghost use Rattle.bayer.specs.Exports.{Exported, ReadExported};
 use bayer::{ReadReturned, Returned};
 use frame::Shape;
 
-// Reads a frame file into `samples`, which has W.H entries or more; those past W.H stay.
+// Reads a frame file into `samples`, which has W·H entries or more; those past W·H stay.
 #[unsafe(no_mangle)]
 pub extern "C" fn bayer_read(file: &[u8], samples: &mut [u16]) -> ReadReturned
     ensures answer { ReadExported (read_answer file.now (length samples.old)) result }
@@ -41,7 +41,7 @@ pub extern "C" fn bayer_clamp(plane: &[i32], clamped: &mut [i32]) -> Returned
     bayer::bayer_clamp(plane, clamped)
 }
 
-// Develops a frame at a black level into three planes and the decision map, of W.H entries each, with a work buffer of 4·W·H entries or
+// Develops a frame at a black level into three planes and the decision map, of W·H entries each, with a work buffer of 4·W·H entries or
 // more, which may hold anything after success.
 #[unsafe(no_mangle)]
 pub extern "C" fn bayer_develop(

@@ -19,7 +19,7 @@ fn byte(bytes: &[u8], k: usize) -> usize
     bytes[k] as usize
 }
 
-// A number as four bytes, little_endian.
+// A number as four bytes, little-endian.
 pub fn bytes4(number: usize) -> [u8; 4]
     ensures { result ≡ little_endian_bytes 4 number }
 {
@@ -31,7 +31,7 @@ pub fn bytes4(number: usize) -> [u8; 4]
     ]
 }
 
-// The number in two bytes, little_endian.
+// The number in two bytes, little-endian.
 pub fn number_of_two(bytes: &[u8], at: usize) -> usize
     requires { at + 2 ≤ length bytes.now }
     ensures { (result ≡ little_endian (part bytes.now at 2)) × (result < 65536) }
@@ -39,7 +39,7 @@ pub fn number_of_two(bytes: &[u8], at: usize) -> usize
     byte(bytes, at) + 256 * byte(bytes, at + 1)
 }
 
-// The number in four bytes, little_endian.
+// The number in four bytes, little-endian.
 fn number_of_four(bytes: &[u8], at: usize) -> usize
     requires { at + 4 ≤ length bytes.now }
     ensures { result ≡ little_endian (part bytes.now at 4) }

@@ -1,5 +1,4 @@
--- Document 02, A2: what develop returns at a black level, and in which order it tests; the frames are K1's and ones near it. One
--- computation. Assumes nothing.
+-- The answers at black levels are as told, by one computation. Assumes nothing.
 use Rattle.std.specs.Prelude.{◌≡◌, refl}
 use Rattle.frame.specs.Sites.{side_allowed, phase_allowed, highest_sample}
 use Rattle.frame.specs.Calls.{first_failing, samples_answer, answer_in_order, highest_black, black_answer, most_under, under_answer, lengths_fit, lengths_allowed, develop_answer}

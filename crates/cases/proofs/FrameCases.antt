@@ -1,6 +1,4 @@
--- Whole planes and decision maps: of K10's frame, whose planes document 01 tells, and of a larger frame rich in weak sites, whose planes
--- and map are as the independent implementation in tests/reference develops it; and K1's planes at a black level above 0. Computed by
--- stages. Assumes nothing.
+-- The whole planes and decision maps are as told, computed by stages. Assumes nothing.
 use Rattle.std.specs.Prelude.{◌≡◌, refl}
 use Rattle.std.proofs.Common.{arith}
 use Rattle.toolkit.specs.Tables.{tabulate}

@@ -1,4 +1,4 @@
--- Document 01, "Glaze cases": K1 to K12, and the text of K1's frame, proved by one computation. Assumes nothing.
+-- The glaze cases hold, by one computation. Assumes nothing.
 use Rattle.std.specs.Prelude.{◌≡◌, refl}
 use Rattle.cases.specs.Row.{all_given, all_told}
 use Rattle.toolkit.specs.Tables.{tabulate}

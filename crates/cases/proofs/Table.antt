@@ -1,5 +1,4 @@
--- The case table: document 01's glaze cases, the planes and the decision maps of two frames, and develop's answers at black levels, as one
--- fact. Assumes nothing.
+-- The case table as one fact: each of its 30 rows holds. Assumes nothing.
 use Rattle.std.specs.Prelude.{◌≡◌, refl, List, [], ◌++◌, ℕ, length, get_or}
 use Rattle.std.proofs.Common.{sym, ◌∙◌, ap, ap₂}
 use Rattle.std.proofs.lemmas.List.{map-append}

@@ -1,5 +1,5 @@
--- Document 02, A2: what develop returns at a black level, and in which order it tests; the frames are K1's and ones near it. One
--- computation. Assumes nothing.
+-- Document 02, A2: what develop returns at a black level, and in which order it tests; the frames are K1's and ones near it.
+-- Definitions alone. Assumes nothing.
 use Rattle.std.specs.Prelude.{List, [], ◌∷◌, ℕ}
 use Rattle.frame.specs.Sites.{Frame}
 use Rattle.frame.specs.Calls.{Returned, returned, Lengths, develop_answer}

@@ -1,6 +1,6 @@
 -- Whole planes and decision maps: of K10's frame, whose planes document 01 tells, and of a larger frame rich in weak sites, whose planes
--- and map are as the independent implementation in tests/reference develops it; and K1's planes at a black level above 0. Computed by
--- stages. Assumes nothing.
+-- and map are as the independent implementation in tests/reference develops it; and K1's planes at a black level above 0. Definitions
+-- alone. Assumes nothing.
 use Rattle.std.specs.Prelude.{List, [], ◌∷◌, ◌++◌, ℕ, ℤ, pos, neg_ℤ}
 use Rattle.frame.specs.Sites.{Frame, Colour, red, green, blue}
 use Rattle.method.specs.Green.{decision_map}

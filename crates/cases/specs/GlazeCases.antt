@@ -1,4 +1,4 @@
--- Document 01, "Glaze cases": K1 to K12, and the text of K1's frame, proved by one computation. Assumes nothing.
+-- Document 01, "Glaze cases": K1 to K12, and the text of K1's frame. Definitions alone. Assumes nothing.
 use Rattle.std.specs.Prelude.{List, [], ◌∷◌, ◌++◌, ℕ, pos, negsuc}
 use Rattle.cases.specs.Row.{site, takes, numbers, naturals, Case}
 use Rattle.frame.specs.Sites.{Frame, red, green, blue}

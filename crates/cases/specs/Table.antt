@@ -1,5 +1,5 @@
--- The case table: document 01's glaze cases, the planes and the decision maps of two frames, and develop's answers at black levels, as one
--- fact. Assumes nothing.
+-- The case table: document 01's glaze cases, the planes and the decision maps of two frames, and develop's answers at black levels.
+-- Definitions alone. Assumes nothing.
 use Rattle.std.specs.Prelude.{List, ◌++◌}
 use Rattle.cases.specs.Row.{Case}
 use Rattle.cases.specs.GlazeCases.{glaze_cases}

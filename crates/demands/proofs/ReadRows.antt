@@ -1,5 +1,4 @@
--- Document 01, the table "returned: number, place", for read: row by row with its condition, in the order in which read tests; and that
--- what read answers is such a row. Assumes nothing.
+-- What read answers is a row of the table, with its condition. Assumes nothing.
 use Rattle.std.specs.Prelude.{◌≡◌, Bool, List, [], ◌∷◌, get_or, drop}
 use Rattle.std.proofs.Common.{ap, subst, sym, ◌∙◌, ⊎_elim, eq-or-lt_of_le, le_of_suc-le-suc, arith, length-drop, get_or-drop}
 use Prim.Native.Nat.{ℕ, zero, suc, ◌+◌, ◌*◌, ◌-◌, ◌%◌, ◌<◌, ◌≤◌}

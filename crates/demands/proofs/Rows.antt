@@ -1,5 +1,4 @@
--- Document 01, the table "returned: number, place", for develop, write and clamp: row by row with its conditions, in document 02's order;
--- and that what develop and write answer is such a row. `ReadRows` has the rows of read. Assumes nothing.
+-- What develop and write answer is a row of the table, with its conditions. `ReadRows` has the same for read. Assumes nothing.
 use Rattle.std.specs.Prelude.{◌≡◌, Bool, ◌&&◌, ℕ, zero, suc, ◌+◌, ◌*◌, ◌<◌, ◌≤◌, length, get_or}
 use Rattle.std.proofs.Common.{subst, arith}
 use mathlib.Core.List.{List, [], ◌∷◌}

@@ -1,5 +1,5 @@
--- Document 01, the table "returned: number, place", for read: row by row with its condition, in the order in which read tests; and that
--- what read answers is such a row. Assumes nothing.
+-- Document 01, the table "returned: number, place", for read: row by row with its condition, in the order in which read tests.
+-- Definitions alone. Assumes nothing.
 use Rattle.std.specs.Prelude.{◌≡◌, List, get_or}
 use Prim.Native.Nat.{ℕ, ◌+◌, ◌*◌, ◌-◌, ◌%◌, ◌<◌, ◌≤◌}
 use Rattle.std.proofs.Math.ListN.{length}

@@ -1,5 +1,5 @@
--- Document 01, the table "returned: number, place", for develop, write and clamp: row by row with its conditions, in document 02's order;
--- and that what develop and write answer is such a row. `ReadRows` has the rows of read. Assumes nothing.
+-- Document 01, the table "returned: number, place", for develop, write and clamp: row by row with its conditions, in document 02's order.
+-- `ReadRows` has the rows of read. Definitions alone. Assumes nothing.
 use Rattle.std.specs.Prelude.{◌≡◌, ℕ, ◌+◌, ◌*◌, ◌<◌, ◌≤◌, length, get_or}
 use Rattle.frame.specs.Sites.{Frame}
 use Rattle.frame.specs.Calls.{Returned, success}

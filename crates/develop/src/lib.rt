@@ -122,7 +122,7 @@ fn run(
     );
 }
 
-// Develops a frame at a black level into three planes and the decision map, of W.H entries each, with a work buffer of 4·W·H entries or
+// Develops a frame at a black level into three planes and the decision map, of W·H entries each, with a work buffer of 4·W·H entries or
 // more. A refusal leaves every buffer as it was.
 pub fn develop(
     shape: Shape,

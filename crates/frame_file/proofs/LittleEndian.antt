@@ -1,4 +1,4 @@
--- Laws of little_endian numbers, of any count of bytes. Assumes nothing.
+-- Laws of little-endian numbers, of any count of bytes. Assumes nothing.
 use Rattle.std.specs.Prelude.{◌≡◌, refl, List, [], ◌∷◌, ℕ, zero, suc, ◌+◌, ◌*◌, ◌/◌, ◌%◌, ◌^◌, ◌≤◌, ◌<◌, length, get_or}
 use Rattle.std.proofs.Common.{sym, ◌∙◌, ap, pow-suc, arith}
 use Rattle.frame_file.specs.Lists.{part, part_cons, length_part, Below, below_part}

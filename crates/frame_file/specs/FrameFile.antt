@@ -30,7 +30,7 @@ block_size = 512
 unfoldable pub block : List ℕ → ℕ → List ℕ
 block file n = part file (block_size * n) block_size
 
--- "little_endian": the number that bytes stand for, and a number as n bytes
+-- "little-endian": the number that bytes stand for, and a number as n bytes
 unfoldable pub little_endian : List ℕ → ℕ
 little_endian [] = 0
 little_endian (b ∷ l) = b + 256 * little_endian l
@@ -39,7 +39,7 @@ unfoldable pub little_endian_bytes : ℕ → ℕ → List ℕ
 little_endian_bytes zero v = []
 little_endian_bytes (suc n) v = (v % 256) ∷ little_endian_bytes n (v / 256)
 
--- "Bytes 0..3: block number, little_endian, from 0."
+-- "Bytes 0..3: block number, little-endian, from 0."
 unfoldable pub block_number : List ℕ → ℕ
 block_number b = little_endian (part b 0 4)
 
@@ -51,7 +51,7 @@ position_weighted_sum f (suc k) = position_weighted_sum f k + (k + 1) * f k
 unfoldable pub check : List ℕ → ℕ
 check b = position_weighted_sum (λ k. get_or b k 0) 508
 
--- "Bytes 508..511: check, little_endian, the sum of (k+1) times byte k for k = 0..507."
+-- "Bytes 508..511: check, little-endian, the sum of (k+1) times byte k for k = 0..507."
 unfoldable pub stored_check : List ℕ → ℕ
 stored_check b = little_endian (part b 508 4)
 
@@ -62,7 +62,7 @@ tag = 66 ∷ 65 ∷ 89 ∷ 82 ∷ []
 unfoldable pub has_tag : List ℕ → Bool
 has_tag b = same_list (part b 4 4) tag
 
--- "8..9 W, 10..11 H (little_endian), 12 phase,"
+-- "8..9 W, 10..11 H (little-endian), 12 phase,"
 unfoldable pub header : List ℕ → Shape
 header b = record { width = little_endian (part b 8 2); height = little_endian (part b 10 2); phase = get_or b 12 0 }
 

@@ -1,5 +1,5 @@
 -- What each stage of the sweep reads for row i, and what it stores. Definitions alone. Assumes nothing.
--- `X_reads` is what a stage asks of some frame, and what it is told of the frame whose numbers it then stores.
+-- `XReads` is what a stage asks of some frame, and what it is told of the frame whose numbers it then stores.
 use Rattle.std.specs.Prelude.{◌≡◌, List, ℕ, ◌+◌, ◌*◌, ◌-◌, ◌<◌, ◌≤◌, min, ℤ, pos, length}
 use Rattle.toolkit.specs.Writes.{Wrote}
 use Rattle.frame.specs.Sites.{Frame, frame}
