@@ -1,10 +1,10 @@
 -- What holds of a shape that passes numbers 1 and 2, and of a count that passes 3. Assumes nothing.
+use Rattle.frame.specs.Calls.{no_refusal}
 use Rattle.std.specs.Prelude.{◌≡◌, ℕ, ◌*◌, ◌≤◌}
 use Rattle.std.proofs.Common.{mul-le-mul, arith}
 use Rattle.toolkit.specs.Tests.{holds, leb_le, eqb_eq, and_true}
 use Rattle.frame.specs.declared.Shape.{Shape}
 use Rattle.frame.specs.declared.Refusal.TheVariants.{Size, Phase, MosaicLength}
-use Rattle.frame.specs.declared.Answer.TheVariants.{Done}
 use Rattle.frame.specs.Sites.{side_allowed, phase_allowed}
 use Rattle.frame.proofs.Admission.{tested_done, side_high}
 use Rattle.admission.specs.ShapeTest.{shape_answer, count_answer}
@@ -14,7 +14,7 @@ pub record Allowed (shape : Shape) : Type 0 where
   pub height : shape.height ≤ 4096
   pub phase : shape.phase ≤ 3
 
-pub shape_passes : (shape : Shape) → shape_answer shape ≡ Done → Allowed shape
+pub shape_passes : (shape : Shape) → shape_answer shape ≡ no_refusal → Allowed shape
 unfolding shape_answer phase_allowed
 shape_passes shape e =
     let sides = tested_done _ Size _ e in
@@ -26,12 +26,12 @@ shape_passes shape e =
       phase = leb_le _ 3 phase.0;
     }
 
-pub count_passes : (shape : Shape) (count : ℕ) → count_answer shape count ≡ Done → count ≡ shape.height * shape.width
+pub count_passes : (shape : Shape) (count : ℕ) → count_answer shape count ≡ no_refusal → count ≡ shape.height * shape.width
 unfolding count_answer
 count_passes shape count e = eqb_eq _ _ (tested_done _ MosaicLength _ e).0
 
 -- W·H of such a shape
-pub count_most : (shape : Shape) (count : ℕ) → shape_answer shape ≡ Done → count_answer shape count ≡ Done → count ≤ 16777216
+pub count_most : (shape : Shape) (count : ℕ) → shape_answer shape ≡ no_refusal → count_answer shape count ≡ no_refusal → count ≤ 16777216
 count_most shape count s e =
     let a = shape_passes shape s in
     omega (arith, count_passes shape count e, mul-le-mul a.height a.width)

@@ -3,19 +3,17 @@ use Rattle.std.specs.Prelude.{◌≡◌, refl, Bool, true, false, ◌&&◌, List
 use Rattle.frame.specs.declared.Shape.{Shape}
 use Rattle.frame.specs.declared.Refusal.{Refusal}
 use Rattle.frame.specs.declared.Refusal.TheVariants.{Size, Phase, MosaicLength, BufferLength}
-use Rattle.frame.specs.declared.Answer.{Answer}
-use Rattle.frame.specs.declared.Answer.TheVariants.{Done}
 use Rattle.frame.specs.Sites.{frame, side_allowed, phase_allowed}
-use Rattle.frame.specs.Calls.{tested, and_then, samples_answer, answer_in_order}
+use Rattle.frame.specs.Calls.{tested, and_then, samples_answer, answer_in_order, Answer, no_refusal}
 use Rattle.admission.specs.ShapeTest.{shape_answer, count_answer}
 
 -- a test, and then the rest
-one_test : (holds : Bool) (why : Refusal) (rest : Answer) → tested holds why rest ≡ and_then (tested holds why Done) rest
+one_test : (holds : Bool) (why : Refusal) (rest : Answer) → tested holds why rest ≡ and_then (tested holds why no_refusal) rest
 one_test true why rest = refl
 one_test false why rest = refl
 
 two_tests : (sides phase : Bool) (rest : Answer)
-    → tested sides Size (tested phase Phase rest) ≡ and_then (tested sides Size (tested phase Phase Done)) rest
+    → tested sides Size (tested phase Phase rest) ≡ and_then (tested sides Size (tested phase Phase no_refusal)) rest
 two_tests true true rest = refl
 two_tests true false rest = refl
 two_tests false phase rest = refl

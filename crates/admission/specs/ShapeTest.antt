@@ -2,10 +2,8 @@
 use Rattle.std.specs.Prelude.{Bool, ◌&&◌, ℕ, ◌*◌, eqb}
 use Rattle.frame.specs.declared.Shape.{Shape}
 use Rattle.frame.specs.declared.Refusal.TheVariants.{Size, Phase, MosaicLength}
-use Rattle.frame.specs.declared.Answer.{Answer}
-use Rattle.frame.specs.declared.Answer.TheVariants.{Done}
 use Rattle.frame.specs.Sites.{side_allowed, phase_allowed}
-use Rattle.frame.specs.Calls.{tested}
+use Rattle.frame.specs.Calls.{tested, Answer, no_refusal}
 
 -- W, H and the phase are allowed
 unfoldable pub shape_allowed : Shape → Bool
@@ -14,8 +12,8 @@ shape_allowed shape = side_allowed shape.width && (side_allowed shape.height && 
 -- numbers 1 and 2, in this order
 unfoldable pub shape_answer : Shape → Answer
 shape_answer shape =
-    tested (side_allowed shape.width && side_allowed shape.height) Size (tested (phase_allowed shape.phase) Phase Done)
+    tested (side_allowed shape.width && side_allowed shape.height) Size (tested (phase_allowed shape.phase) Phase no_refusal)
 
 -- number 3, for a mosaic of the given length
 unfoldable pub count_answer : Shape → ℕ → Answer
-count_answer shape mosaic_length = tested (eqb mosaic_length (shape.height * shape.width)) MosaicLength Done
+count_answer shape mosaic_length = tested (eqb mosaic_length (shape.height * shape.width)) MosaicLength no_refusal

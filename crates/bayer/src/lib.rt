@@ -1,9 +1,9 @@
 // The published calls under plain names, for Rust, and by bayer_c for C. Each answers every input.
 #![tactic(auto)]
 
-ghost use Rattle.std.specs.Prelude.{◌≡◌, length};
+ghost use Rattle.std.specs.Prelude.{◌≡◌, length, Err};
 ghost use Rattle.frame.specs.Sites.{frame as frame_of, Colour};
-ghost use Rattle.frame.specs.Calls.{number_and_place, develop_answer, clamp_answer, clamped as clamped_plane, after};
+ghost use Rattle.frame.specs.Calls.{develop_answer, clamp_answer, clamped as clamped_plane, after};
 ghost use Rattle.method.specs.Green.{decision_map};
 ghost use Rattle.method.specs.Planes.{plane};
 ghost use Rattle.develop.specs.LentBuffers.{lengths, KeptOnRefusal};
@@ -12,7 +12,7 @@ ghost use Rattle.bayer.specs.Exports.{Exported, ReadExported};
 
 use frame::{Answer, ReadAnswer, Refusal, Shape};
 
-// 0, 0 on success, otherwise the refusal's number and place.
+// 0, 0 on success, otherwise the refusal's number and place: numbers, since C reads them.
 #[repr(C)]
 #[derive(Drop)]
 pub struct Returned {
@@ -32,46 +32,52 @@ pub struct ReadReturned {
 }
 
 // Number and place of a refusal.
-fn export_refusal(why: Refusal) -> Returned
-    ensures { (result.number ≡ (number_and_place why).number) × (result.place ≡ (number_and_place why).place) }
-{
-    Returned {
-        number: frame::number_of(why),
-        place: frame::place_of(why),
+impl From<Refusal> for Returned {
+    ghost from_gives = { λ why r. Exported (Err why) r };
+
+    fn from(why: Refusal) -> Returned {
+        Returned {
+            number: frame::number_of(why),
+            place: frame::place_of(why),
+        }
     }
 }
 
-fn export_answer(answer: Answer) -> Returned
-    ensures { Exported answer result }
-{
-    match answer {
-        Answer::Done => Returned {
-            number: 0,
-            place: 0,
-        },
-        Answer::Refused(why) => export_refusal(why),
+impl From<Answer> for Returned {
+    ghost from_gives = { Exported };
+
+    fn from(answer: Answer) -> Returned {
+        match answer {
+            Ok(()) => Returned {
+                number: 0,
+                place: 0,
+            },
+            Err(why) => Returned::from(why),
+        }
     }
 }
 
-fn export_read(answer: ReadAnswer) -> ReadReturned
-    ensures { ReadExported answer result }
-{
-    match answer {
-        ReadAnswer::Frame(shape) => ReadReturned {
-            number: 0,
-            place: 0,
-            width: shape.width,
-            height: shape.height,
-            phase: shape.phase,
-        },
-        ReadAnswer::Refused(why) => {
-            let refusal = export_refusal(why);
-            ReadReturned {
-                number: refusal.number,
-                place: refusal.place,
-                width: 0,
-                height: 0,
-                phase: 0,
+impl From<ReadAnswer> for ReadReturned {
+    ghost from_gives = { ReadExported };
+
+    fn from(answer: ReadAnswer) -> ReadReturned {
+        match answer {
+            Ok(shape) => ReadReturned {
+                number: 0,
+                place: 0,
+                width: shape.width,
+                height: shape.height,
+                phase: shape.phase,
+            },
+            Err(why) => {
+                let refusal = Returned::from(why);
+                ReadReturned {
+                    number: refusal.number,
+                    place: refusal.place,
+                    width: 0,
+                    height: 0,
+                    phase: 0,
+                }
             }
         }
     }
@@ -82,7 +88,7 @@ pub fn bayer_read(file: &[u8], samples: &mut [u16]) -> ReadReturned
     ensures answer { ReadExported (read_answer file.now (length samples.old)) result }
     ensures left { samples.new ≡ samples_after_read file.now samples.old }
 {
-    export_read(reader::read(file, samples))
+    reader::read(file, samples).into()
 }
 
 // Writes a frame into `file`, which has exactly the file's length.
@@ -90,7 +96,7 @@ pub fn bayer_write(shape: Shape, mosaic: &[u16], file: &mut [u8]) -> Returned
     ensures answer { Exported (write_answer (frame_of shape mosaic.now) (length file.old)) result }
     ensures left { file.new ≡ file_after_write (frame_of shape mosaic.now) file.old }
 {
-    export_answer(writer::write(shape, mosaic, file))
+    writer::write(shape, mosaic, file).into()
 }
 
 // Fills `clamped` with the numbers of `plane`, each held to 0..1,023; both have the same length.
@@ -99,7 +105,7 @@ pub fn bayer_clamp(plane: &[i32], clamped: &mut [i32]) -> Returned
     ensures left { clamped.new ≡ after (clamp_answer (length plane.now) (length clamped.old))
         (clamped_plane plane.now) clamped.old }
 {
-    export_answer(clamp::clamp(plane, clamped))
+    clamp::clamp(plane, clamped).into()
 }
 
 // Develops a frame at a black level into three planes and the decision map, of W·H entries each, with a work buffer of 4·W·H entries or
@@ -132,5 +138,5 @@ pub fn bayer_develop(
         (lengths red.old green.old blue.old map.old work.old))
         work.old work.new }
 {
-    export_answer(develop::develop(shape, black, mosaic, red, green, blue, map, work))
+    develop::develop(shape, black, mosaic, red, green, blue, map, work).into()
 }

@@ -1,11 +1,9 @@
 -- What the block checker answers. Definitions alone. Assumes nothing.
 use Rattle.std.specs.Prelude.{List, ℕ}
 use Rattle.frame.specs.declared.Refusal.TheVariants.{Check, BlockNumber}
-use Rattle.frame.specs.declared.Answer.{Answer}
-use Rattle.frame.specs.declared.Answer.TheVariants.{Done}
-use Rattle.frame.specs.Calls.{tested}
+use Rattle.frame.specs.Calls.{tested, Answer, no_refusal}
 use Rattle.frame_file.specs.FrameFile.{check_holds, number_holds}
 
 -- "7, block: check differs", then "9, block: block number differs", the tests that every block has
 unfoldable pub block_answer : List ℕ → ℕ → Answer
-block_answer b n = tested (check_holds b) (Check n) (tested (number_holds b n) (BlockNumber n) Done)
+block_answer b n = tested (check_holds b) (Check n) (tested (number_holds b n) (BlockNumber n) no_refusal)

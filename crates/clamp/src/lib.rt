@@ -7,38 +7,33 @@ ghost use Rattle.frame.specs.Calls.{held, clamped as clamped_plane, clamp_answer
 use frame::{Answer, Refusal};
 
 // A number held to 0..1,023.
+#[tactic(auto, unfolding(frame::specs::Calls::held, frame::specs::Sites::highest_sample))]
 fn held_number(v: i32) -> i32
     ensures { result ≡ held v }
 {
-    if v < 0 {
-        return 0;
-    }
-    if v > 1023 {
-        return 1023;
-    }
-    v
+    v.clamp(0, 1023)
 }
 
 // Fills `clamped` with the numbers of `plane`, each held to 0..1,023.
+#[tactic(auto, unfolding(frame::specs::Calls::clamped))]
 fn hold_all(plane: &[i32], clamped: &mut [i32])
     requires { length clamped.old ≡ length plane.now }
     ensures { clamped.new ≡ clamped_plane plane.now }
 {
-    let mut k: usize = 0;
-    while k < plane.len() {
-        clamped[k] = held_number(plane[k]);
-        k += 1;
+    for (k, v) in plane.iter().enumerate() {
+        clamped[k] = held_number(*v);
     }
 }
 
 // Clamps a plane of any numbers into one of equal length. A refusal leaves `clamped` as it was.
+#[tactic(auto, unfolding(frame::specs::Calls::clamp_answer))]
 pub fn clamp(plane: &[i32], clamped: &mut [i32]) -> Answer
     ensures answer { result ≡ clamp_answer (length plane.now) (length clamped.old) }
     ensures left { clamped.new ≡ after result (clamped_plane plane.now) clamped.old }
 {
     if clamped.len() != plane.len() {
-        return Answer::Refused(Refusal::BufferLength);
+        return Err(Refusal::BufferLength);
     }
     hold_all(plane, clamped);
-    Answer::Done
+    Ok(())
 }

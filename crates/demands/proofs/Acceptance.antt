@@ -1,13 +1,11 @@
 -- A frame is accepted by develop at a black level exactly when it is admitted at it, and then there is a call that returns 0, 0 for it.
 -- Assumes nothing.
-use Rattle.std.specs.Prelude.{◌≡◌, refl, true, List, ℕ, ◌*◌, eqb, ℤ, pos, length}
+use Rattle.std.specs.Prelude.{◌≡◌, refl, true, List, ℕ, ◌*◌, eqb, ℤ, pos, length, Err, Ok}
 use Rattle.std.proofs.Common.{sym, ◌∙◌, ap, arith}
 use Rattle.toolkit.specs.Tests.{holds, leb_le, leb_yes, eqb_eq, eqb_yes, and_true}
 use Rattle.toolkit.specs.Tables.{tabulate, length_tabulate}
-use Rattle.frame.specs.declared.Answer.{Answer}
-use Rattle.frame.specs.declared.Answer.TheVariants.{Done, Refused}
 use Rattle.frame.specs.Sites.{Frame, red, green, blue}
-use Rattle.frame.specs.Calls.{returned, lengths_fit, lengths_allowed, develop_answer, after, AdmittedAt}
+use Rattle.frame.specs.Calls.{returned, lengths_fit, lengths_allowed, develop_answer, after, AdmittedAt, Answer}
 use Rattle.method.specs.Green.{decision_map}
 use Rattle.method.specs.Planes.{plane}
 use Rattle.method.specs.Comparison.{Accepted}
@@ -40,8 +38,8 @@ yes_lengths f before a =
 -- ---- one call
 
 kept : (answer : Answer) (work : List ℤ) → KeptOnRefusal answer work work
-kept Done work = tt
-kept (Refused why) work = refl
+kept (Ok _) work = tt
+kept (Err why) work = refl
 
 -- what a call leaves that does not touch the work buffer
 called : (f : Frame) (b : ℕ) (before : Buffers)

@@ -1,15 +1,12 @@
 -- Document 00, demand 1, for each call: what is returned is a row of document 01's table with its condition (`Rows`, `ReadRows`), and
 -- whatever is returned other than 0, 0 leaves every lent buffer as it was. That no call traps, runs without end or touches anything outside
 -- what it is lent is proved of every function by the language; what is lent to be read alone cannot change. Assumes nothing.
-use Rattle.std.specs.Prelude.{◌≡◌, refl, List, ℕ, eqb, ℤ}
+use Rattle.std.specs.Prelude.{◌≡◌, refl, List, ℕ, eqb, ℤ, Err, Ok}
 use Rattle.std.proofs.Common.{◌∙◌, ap}
 use Rattle.std.proofs.Math.ListN.{length}
 use Rattle.frame.specs.declared.Refusal.TheVariants.{BufferLength}
-use Rattle.frame.specs.declared.Answer.{Answer}
-use Rattle.frame.specs.declared.Answer.TheVariants.{Done, Refused}
-use Rattle.frame.specs.declared.ReadAnswer.{ReadAnswer}
 use Rattle.frame.specs.Sites.{Frame}
-use Rattle.frame.specs.Calls.{success, returned, returned_by_read, lengths_allowed, develop_answer, clamp_answer}
+use Rattle.frame.specs.Calls.{success, returned, returned_by_read, lengths_allowed, develop_answer, clamp_answer, Answer, ReadAnswer, no_refusal}
 use Rattle.frame_file.specs.FrameFile.{file_length, Reading, accepted, refused, answer_of, samples_of, reading, read_answer, samples_after_read, write_answer, file_after_write}
 use Rattle.demands.specs.WhatCallsLeave.{Buffers, buffers, lengths_of, LengthsAllowed, DevelopLeaves, ClampLeaves, ReadLeaves, WriteLeaves}
 use Rattle.demands.proofs.Acceptance.{lengths_yes, yes_lengths}
@@ -37,8 +34,8 @@ module _ (f : Frame) (b : ℕ) (before : Buffers) where
   -- and a refusal leaves the three planes, the map and the work buffer as they were
   pub develop_refusal : (answer : Answer) (left : Buffers) → DevelopLeaves f b before answer left → ¬ (returned answer ≡ success)
       → left ≡ before
-  develop_refusal Done left call no_success = absurd (no_success refl)
-  develop_refusal (Refused why) left call no_success =
+  develop_refusal (Ok _) left call no_success = absurd (no_success refl)
+  develop_refusal (Err why) left call no_success =
       λ t. buffers (call.red_left t) (call.green_left t) (call.blue_left t) (call.map_left t) (call.work_left t)
 
 -- ---- clamp
@@ -47,7 +44,7 @@ module _ (numbers before : List ℤ) where
   clamp_answer_row : RowOfClamp (length before ≡ length numbers) (returned (clamp_answer (length numbers) (length before)))
   unfolding clamp_answer
   clamp_answer_row =
-      by_condition (λ a. RowOfClamp (length before ≡ length numbers) (returned a)) Done (Refused BufferLength)
+      by_condition (λ a. RowOfClamp (length before ≡ length numbers) (returned a)) no_refusal (Err BufferLength)
       (equal_decides (length before) (length numbers)) done number_4
 
   pub clamp_row : (answer : Answer) (left : List ℤ) → ClampLeaves numbers before answer left
@@ -56,8 +53,8 @@ module _ (numbers before : List ℤ) where
 
   pub clamp_refusal : (answer : Answer) (left : List ℤ) → ClampLeaves numbers before answer left → ¬ (returned answer ≡ success)
       → left ≡ before
-  clamp_refusal Done left call no_success = absurd (no_success refl)
-  clamp_refusal (Refused why) left call no_success = call.plane_left
+  clamp_refusal (Ok _) left call no_success = absurd (no_success refl)
+  clamp_refusal (Err why) left call no_success = call.plane_left
 
 -- ---- read
 
@@ -94,5 +91,5 @@ module _ (f : Frame) (before : List ℕ) where
   pub write_refusal : (answer : Answer) (left : List ℕ) → WriteLeaves f before answer left → ¬ (returned answer ≡ success)
       → left ≡ before
   unfolding file_after_write
-  write_refusal Done left call no_success = absurd (no_success refl)
-  write_refusal (Refused why) left call no_success = rw (← call.answered) at call.file_left
+  write_refusal (Ok _) left call no_success = absurd (no_success refl)
+  write_refusal (Err why) left call no_success = rw (← call.answered) at call.file_left

@@ -1,14 +1,10 @@
 -- Document 00, demand 2, over what the calls return and leave. Assumes nothing.
-use Rattle.std.specs.Prelude.{◌≡◌, ◌↔◌, List, ◌++◌, ℕ, ◌+◌, ◌*◌, ◌<◌, ◌≤◌, pos, length, get_or, drop}
+use Rattle.std.specs.Prelude.{◌≡◌, ◌↔◌, List, ◌++◌, ℕ, ◌+◌, ◌*◌, ◌<◌, ◌≤◌, pos, length, get_or, drop, Err, Ok}
 use Rattle.std.proofs.Math.Path.{refl, ap}
 use Rattle.std.proofs.Common.{sym, ◌∙◌}
 use Rattle.toolkit.specs.Raster.{length_raster, getD_raster}
-use Rattle.frame.specs.declared.Answer.{Answer}
-use Rattle.frame.specs.declared.Answer.TheVariants.{Done, Refused}
-use Rattle.frame.specs.declared.ReadAnswer.{ReadAnswer}
-use Rattle.frame.specs.declared.ReadAnswer.TheVariants as Read
 use Rattle.frame.specs.Sites.{Frame, Colour, red, green, blue}
-use Rattle.frame.specs.Calls.{success, returned, returned_by_read}
+use Rattle.frame.specs.Calls.{success, returned, returned_by_read, Answer, ReadAnswer}
 use Rattle.frame.proofs.Admission.{refused_not_done, returned_done}
 use Rattle.method.specs.Gradients.{mosaic}
 use Rattle.method.specs.Green.{decision_entry, decision_map}
@@ -26,10 +22,10 @@ module _ (f : Frame) (b : ℕ) (before : Buffers) where
   -- a call of develop that returns 0, 0 leaves the planes of the method, less the black level
   pub planes_left : (answer : Answer) (left : Buffers) → DevelopLeaves f b before answer left → returned answer ≡ success
       → (c : Colour) → plane_of left c ≡ plane f b c
-  planes_left Done left call e red = call.red_left
-  planes_left Done left call e green = call.green_left
-  planes_left Done left call e blue = call.blue_left
-  planes_left (Refused why) left call e c = refused_not_done why (returned_done (Refused why) e)
+  planes_left (Ok _) left call e red = call.red_left
+  planes_left (Ok _) left call e green = call.green_left
+  planes_left (Ok _) left call e blue = call.blue_left
+  planes_left (Err why) left call e c = refused_not_done why (returned_done (Err why) e)
 
   -- W·H entries, of which i·W + j is the method's number at (i,j); document 02, A2: less b
   pub numbers_left : (answer : Answer) (left : Buffers) → DevelopLeaves f b before answer left → returned answer ≡ success
@@ -45,8 +41,8 @@ module _ (f : Frame) (b : ℕ) (before : Buffers) where
   -- document 02, A1: beside the planes it leaves the method's decisions
   pub decisions_left : (answer : Answer) (left : Buffers) → DevelopLeaves f b before answer left → returned answer ≡ success
       → left.map ≡ decision_map f
-  decisions_left Done left call e = call.map_left
-  decisions_left (Refused why) left call e = refused_not_done why (returned_done (Refused why) e)
+  decisions_left (Ok _) left call e = call.map_left
+  decisions_left (Err why) left call e = refused_not_done why (returned_done (Err why) e)
 
   -- W·H entries, of which i·W + j is the code of the method's decision at (i,j)
   pub entries_left : (answer : Answer) (left : Buffers) → DevelopLeaves f b before answer left → returned answer ≡ success
@@ -89,12 +85,12 @@ module _ (file : List ℕ) (bytes : Below 256 file) (before : List ℕ) where
   found_made (accepted f) is e =
       let w = accepted_is_written file bytes (length before) f is in
       record { frame = f; made = makes_made f file (written_makes f file w.admitted w.written); enough = w.enough }
-  found_made (refused why) is e = refused_not_done why (returned_done (Refused why) e)
+  found_made (refused why) is e = refused_not_done why (returned_done (Err why) e)
 
   module _ (answer : ReadAnswer) (left : List ℕ) (call : ReadLeaves file before answer left) where
     -- "and reading yields that frame": W, H and the phase are returned, and the samples stand at the front of what was lent
     pub yields_that_frame : (f : Frame) → MadeFrom f file → sample_count f ≤ length before
-        → (answer ≡ Read.Frame (shape_of f)) × (left ≡ f.samples ++ drop (sample_count f) before)
+        → (answer ≡ Ok (shape_of f)) × (left ≡ f.samples ++ drop (sample_count f) before)
     yields_that_frame f made enough =
         let yields = (read_yields_what_write_makes file bytes before f).1 (made_makes f file made, enough) in
         (call.answered ∙ yields.answered, call.samples_left ∙ yields.left)

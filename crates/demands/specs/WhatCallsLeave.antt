@@ -1,10 +1,9 @@
--- What each published call returns and leaves, from what it is lent: word for word the call's contract, as `Contracts` shows.
+-- What each published call returns and leaves, from what it is lent: word for word the call's contract, as `CallContracts` shows.
 -- Definitions alone. Assumes nothing.
 use Rattle.std.specs.Prelude.{◌≡◌, List, ℕ, ◌+◌, ◌*◌, ◌≤◌, ℤ, pos, length, get_or}
-use Rattle.frame.specs.declared.Answer.{Answer}
-use Rattle.frame.specs.declared.ReadAnswer.{ReadAnswer}
 use Rattle.frame.specs.Sites.{Frame, Colour, red, green, blue}
-use Rattle.frame.specs.Calls.{Lengths, success, returned, develop_answer, clamp_answer, clamped, after}
+use Rattle.frame.specs.Calls.{success, returned, develop_answer, clamp_answer, clamped, after, Answer, ReadAnswer}
+use Rattle.frame.specs.declared.Lengths.{Lengths}
 use Rattle.method.specs.Green.{decision_map}
 use Rattle.method.specs.Planes.{plane}
 use Rattle.frame_file.specs.FrameFile.{read_answer, samples_after_read, write_answer, file_after_write}

@@ -1,8 +1,7 @@
 -- The buffers that develop is lent. Definitions alone. Assumes nothing.
-use Rattle.std.specs.Prelude.{◌≡◌, List, ℕ, ℤ, length}
-use Rattle.frame.specs.declared.Answer.{Answer}
-use Rattle.frame.specs.declared.Answer.TheVariants.{Done, Refused}
-use Rattle.frame.specs.Calls.{Lengths}
+use Rattle.std.specs.Prelude.{◌≡◌, List, ℕ, ℤ, length, Err, Ok}
+use Rattle.frame.specs.Calls.{Answer}
+use Rattle.frame.specs.declared.Lengths.{Lengths}
 
 -- the lengths of the planes, of the map and of the work buffer
 abbrev pub lengths : List ℤ → List ℤ → List ℤ → List ℕ → List ℤ → Lengths
@@ -11,5 +10,5 @@ lengths red green blue map work =
 
 -- "Every refusal leaves every buffer untouched."; "After success the work buffer may hold anything;"
 abbrev pub KeptOnRefusal : Answer → List ℤ → List ℤ → Type 0
-KeptOnRefusal Done before last = Unit
-KeptOnRefusal (Refused why) before last = last ≡ before
+KeptOnRefusal (Ok _) before last = Unit
+KeptOnRefusal (Err why) before last = last ≡ before

@@ -1,11 +1,11 @@
--- A frame, a black level and lengths for which develop answers Done: the sweep takes the first two, and every buffer has its room. Assumes
+-- A frame, a black level and lengths for which develop answers Ok: the sweep takes the first two, and every buffer has its room. Assumes
 -- nothing.
 use Rattle.std.specs.Prelude.{◌≡◌, ℕ, ◌*◌, ◌≤◌, leb, eqb}
 use Rattle.std.proofs.Common.{arith}
 use Rattle.toolkit.specs.Tests.{is_true, leb_le, eqb_eq, and_true}
-use Rattle.frame.specs.declared.Answer.TheVariants.{Done}
 use Rattle.frame.specs.Sites.{Frame, highest_sample}
-use Rattle.frame.specs.Calls.{highest_black, Lengths, lengths_fit, lengths_allowed, develop_answer, Admitted}
+use Rattle.frame.specs.Calls.{highest_black, lengths_fit, lengths_allowed, develop_answer, Admitted, no_refusal}
+use Rattle.frame.specs.declared.Lengths.{Lengths}
 use Rattle.frame.proofs.Admission.{side_low, side_high, phase_high, sample_high, done_admitted}
 use Rattle.positions.specs.Taken.{Taken}
 
@@ -30,7 +30,7 @@ admitted_taken f a = record {
   ranged = sample_high f a;
 }
 
-pub done_ready : (f : Frame) (b : ℕ) (l : Lengths) → develop_answer f b l ≡ Done → Ready f b l
+pub done_ready : (f : Frame) (b : ℕ) (l : Lengths) → develop_answer f b l ≡ no_refusal → Ready f b l
 unfolding lengths_allowed lengths_fit highest_black
 done_ready f b l e =
     let n : ℕ = f.height * f.width in

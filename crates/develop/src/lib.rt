@@ -10,88 +10,46 @@ ghost use Rattle.admission.specs.ShapeTest.{shape_answer, count_answer};
 ghost use Rattle.develop.specs.LentBuffers.{lengths, KeptOnRefusal};
 ghost use Rattle.develop.specs.Ready.{Ready};
 
-use frame::{Answer, Refusal, Shape};
+use frame::{Answer, Lengths, Refusal, Shape};
 
 // Whether three planes and the map have `count` entries each, and the work buffer 4·count or more.
-fn lengths_right(
-    count: usize,
-    red: usize,
-    green: usize,
-    blue: usize,
-    map: usize,
-    work: usize,
-) -> bool
+#[tactic(auto, unfolding(frame::specs::Calls::lengths_fit))]
+fn lengths_right(count: usize, lengths: Lengths) -> bool
     requires { count ≤ 16777216 }
-    ensures { result ≡ lengths_fit count (record { red = red; green = green; blue = blue; map = map; work = work }) }
+    ensures { result ≡ lengths_fit count lengths }
 {
-    if red != count {
-        return false;
-    }
-    if green != count {
-        return false;
-    }
-    if blue != count {
-        return false;
-    }
-    if map != count {
-        return false;
-    }
-    if work < 4 * count {
-        return false;
-    }
-    true
+    lengths.red == count
+        && lengths.green == count
+        && lengths.blue == count
+        && lengths.map == count
+        && lengths.work >= 4 * count
 }
 
 // Numbers 1, 2, 11 and 3, in this order.
+#[tactic(auto, using(admission::specs::Allowed::shape_passes))]
 fn judge_shape(shape: Shape, black: usize, count: usize) -> Answer
     ensures { result ≡ and_then (shape_answer shape) (and_then (black_answer black) (count_answer shape count)) }
 {
-    match admission::test_shape(shape) {
-        Answer::Refused(why) => {
-            return Answer::Refused(why);
-        }
-        Answer::Done => {}
-    }
-    match admission::test_black(black) {
-        Answer::Refused(why) => {
-            return Answer::Refused(why);
-        }
-        Answer::Done => {}
-    }
+    admission::test_shape(shape)?;
+    admission::test_black(black)?;
     admission::test_count(shape, count)
 }
 
 // The refusals in order: 1, 2, 11 and 3, then 4 from the lengths, then 5 and 12 from the samples. No buffer is written.
-fn judge(
-    shape: Shape,
-    black: usize,
-    mosaic: &[u16],
-    red: usize,
-    green: usize,
-    blue: usize,
-    map: usize,
-    work: usize,
-) -> Answer
-    ensures { result ≡ develop_answer (frame_of shape mosaic.now) black (record { red = red; green = green; blue = blue; map = map; work = work }) }
+#[tactic(auto, using(crate::proofs::Answers::first_passes, crate::proofs::Answers::lengths_refused, crate::proofs::Answers::under_tested, admission::specs::Allowed::count_most))]
+fn judge(shape: Shape, black: usize, mosaic: &[u16], lengths: Lengths) -> Answer
+    ensures { result ≡ develop_answer (frame_of shape mosaic.now) black lengths }
 {
-    match judge_shape(shape, black, mosaic.len()) {
-        Answer::Refused(why) => {
-            return Answer::Refused(why);
-        }
-        Answer::Done => {}
+    judge_shape(shape, black, mosaic.len())?;
+    if !lengths_right(mosaic.len(), lengths) {
+        return Err(Refusal::BufferLength);
     }
-    if !lengths_right(mosaic.len(), red, green, blue, map, work) {
-        return Answer::Refused(Refusal::BufferLength);
-    }
-    match admission::test_samples(mosaic) {
-        Answer::Refused(why) => {
-            return Answer::Refused(why);
-        }
-        Answer::Done => {}
-    }
+    admission::test_samples(mosaic)?;
     admission::test_under(mosaic, black)
 }
 
+// The planes, the map and work stay five slices, here and in the sweep: a struct of lent slices would owe, at each function, a clause for
+// each field that it still holds the same slice.
 // Fills the three planes and the map. The sweep is lent 4·W·H entries of the work buffer.
 fn run(
     shape: Shape,
@@ -124,6 +82,7 @@ fn run(
 
 // Develops a frame at a black level into three planes and the decision map, of W·H entries each, with a work buffer of 4·W·H entries or
 // more. A refusal leaves every buffer as it was.
+#[tactic(auto, using(crate::specs::Ready::done_ready))]
 pub fn develop(
     shape: Shape,
     black: usize,
@@ -142,20 +101,14 @@ pub fn develop(
     ensures map_left { map.new ≡ after result (decision_map (frame_of shape mosaic.now)) map.old }
     ensures work_left { KeptOnRefusal result work.old work.new }
 {
-    match judge(
-        shape,
-        black,
-        mosaic,
-        red.len(),
-        green.len(),
-        blue.len(),
-        map.len(),
-        work.len(),
-    ) {
-        Answer::Refused(why) => Answer::Refused(why),
-        Answer::Done => {
-            run(shape, black, mosaic, red, green, blue, map, work);
-            Answer::Done
-        }
-    }
+    let lengths = Lengths {
+        red: red.len(),
+        green: green.len(),
+        blue: blue.len(),
+        map: map.len(),
+        work: work.len(),
+    };
+    judge(shape, black, mosaic, lengths)?;
+    run(shape, black, mosaic, red, green, blue, map, work);
+    Ok(())
 }

@@ -1,18 +1,19 @@
 -- |x − y| and s of naturals, and how large they are. Assumes nothing.
 use Rattle.std.specs.Prelude.{◌≡◌, List, ℕ, ◌+◌, ◌*◌, ◌-◌, ◌≤◌, pos, nat_abs, get_or}
+use Rattle.std.specs.Int.{abs_diff}
 use Rattle.std.proofs.Common.{arith}
 use Rattle.toolkit.specs.Orders.{to_naturals}
 use Rattle.method.specs.Gradients.{apart, taps}
 use Rattle.east_rows.specs.RowSums.{Small, along_at}
 
-pub apart_naturals : (x y : ℕ) → apart (pos x) (pos y) ≡ (x - y) + (y - x)
+pub apart_naturals : (x y : ℕ) → abs_diff x y ≡ apart (pos x) (pos y)
 unfolding apart
 apart_naturals x y = simp to_naturals (omega arith)
 
 -- s, from the sum of what counts once and the sum of what counts twice
 pub taps_naturals : (a b c d e f : ℕ)
-    → apart (pos (a + c + d + f)) (pos (2 * (b + e))) ≡ nat_abs (taps (pos a) (pos b) (pos c) (pos d) (pos e) (pos f))
-unfolding taps apart
+    → abs_diff (a + c + d + f) (2 * (b + e)) ≡ nat_abs (taps (pos a) (pos b) (pos c) (pos d) (pos e) (pos f))
+unfolding taps
 taps_naturals a b c d e f = simp to_naturals (omega arith)
 
 pub taps_most : (a b c d e f : ℕ) → a ≤ 4095 → b ≤ 4095 → c ≤ 4095 → d ≤ 4095 → e ≤ 4095 → f ≤ 4095

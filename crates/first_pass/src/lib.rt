@@ -12,13 +12,16 @@ ghost use Rattle.first_pass.specs.Lines.{line_difference, across_difference, dow
 ghost use Rattle.first_pass.specs.Outcomes.{outcome_of, settled};
 ghost use Rattle.first_pass.specs.Trials.{tried, site_trial, site_code, TrialReads};
 
-// What the first pass answers of a site.
+use half_rows::SiteGradients;
+
+// What the first pass answers of a site. The numbers are the entries of the map, which C reads; that of a weak site is the entry of one
+// resolved across, until the second pass resolves it.
 #[derive(Clone, Copy)]
 pub enum FirstPass {
-    Equal,
-    Across,
-    Down,
-    Weak,
+    Equal = 1,
+    Across = 2,
+    Down = 3,
+    Weak = 4,
 }
 
 // An estimate less 8·X: from X, the greens on both sides, and the Xs two off.
@@ -26,7 +29,7 @@ fn line(x: u16, g1: u16, g2: u16, x1: u16, x2: u16) -> i32
     requires { (x ≤ 1023) × (g1 ≤ 1023) × (g2 ≤ 1023) × (x1 ≤ 1023) × (x2 ≤ 1023) }
     ensures { result ≡ line_difference x g1 g2 x1 x2 }
 {
-    4 * (g1 as i32 + g2 as i32) - 4 * x as i32 - 2 * (x1 as i32 + x2 as i32)
+    4 * (i32::from(g1) + i32::from(g2)) - 4 * i32::from(x) - 2 * (i32::from(x1) + i32::from(x2))
 }
 
 // gH and gV less 8·X at the columns c, c + 2, .. of the row at entry at[2]: half rows a and b.
@@ -39,20 +42,15 @@ pub fn line_row(
     b: &mut [i32; 2064],
     count: usize,
 )
-    requires c_bound { (c ≤ 1) × (count ≤ 2048) × (length a.old ≡ 2064) × (length b.old ≡ 2064) }
+    requires c_bound { (c ≤ 1) × (count ≤ 2048) }
     requires small_rows { SmallRows (c + 2 * count + 9) at rows.now }
     ensures entries { Entries (pos 0) 2064 4 (count + 4)
         (λ (x : ℕ). across_difference at rows.now (c + 2 * (x - 4) + 8)) a.new }
     ensures entries_2 { Entries (pos 0) 2064 4 (count + 4)
         (λ (x : ℕ). down_difference at rows.now (c + 2 * (x - 4) + 8)) b.new }
 {
-    let two_up = at[0];
-    let up = at[1];
-    let own = at[2];
-    let down = at[3];
-    let two_down = at[4];
-    let mut k = 0;
-    while k < count {
+    let [two_up, up, own, down, two_down, _, _] = at;
+    for k in 0..count {
         let j = c + 2 * k + 8;
         let here = own + j;
         let x = rows[here];
@@ -70,7 +68,6 @@ pub fn line_row(
             rows[two_up + j],
             rows[two_down + j],
         );
-        k += 1;
     }
 }
 
@@ -82,14 +79,12 @@ pub fn decide(g: [i64; 4]) -> FirstPass
 {
     let h = g[0] as i32 + g[1] as i32;
     let v = g[2] as i32 + g[3] as i32;
-    let lower = if h < v { h } else { v };
-    let higher = if h < v { v } else { h };
     let way = if h < v {
         FirstPass::Across
     } else {
         FirstPass::Down
     };
-    let unequal = if 17 * lower < 10 * higher {
+    let unequal = if 17 * h.min(v) < 10 * h.max(v) {
         way
     } else {
         FirstPass::Weak
@@ -116,22 +111,11 @@ fn settle(o: FirstPass, a: i32, b: i32, own: i32) -> i32
     }
 }
 
-// The code of an outcome; that of a weak site is the code of one resolved across, until the second pass resolves it.
+// The entry of the map.
 fn code_of(o: FirstPass) -> u8
     ensures { result ≡ first_code (outcome_of o) }
 {
-    let strong = match o {
-        FirstPass::Across => 2,
-        _ => 3,
-    };
-    let found = match o {
-        FirstPass::Equal => 1,
-        _ => strong,
-    };
-    match o {
-        FirstPass::Weak => 4,
-        _ => found,
-    }
+    o as u8
 }
 
 // What the first pass leaves of a site: r_D, r_V, and the code of how its green was found.
@@ -158,10 +142,7 @@ fn try_site(g: [i64; 4], a: i32, b: i32) -> Trial
 
 // r_D, r_V and the codes of a row of sites, stored from entry at on.
 pub fn trial_row(
-    work: &[i32],
-    east: usize,
-    south: usize,
-    n: &[i32; 2064],
+    gradients: SiteGradients<'_>,
     a: &[i32; 2064],
     b: &[i32; 2064],
     at: usize,
@@ -170,26 +151,24 @@ pub fn trial_row(
     map: &mut [u8],
     count: usize,
 )
-    requires trial_reads { TrialReads east south count work.now n.now a.now b.now }
+    requires trial_reads { TrialReads gradients.east gradients.south count gradients.work.now gradients.north.now a.now b.now }
     requires count_in_bounds { (at + count ≤ length diagonals.old) × (length diagonals.old ≤ 16777216)
         × (length verticals.old ≡ length diagonals.old) × (length map.old ≡ length diagonals.old) }
     ensures wrote { Wrote (pos 0) at count
-        (site_trial diagonal work.now east south n.now a.now b.now)
+        (site_trial diagonal gradients.entry.work.now gradients.entry.east gradients.entry.south gradients.entry.north.now a.now b.now)
         diagonals.old diagonals.new }
     ensures wrote_2 { Wrote (pos 0) at count
-        (site_trial vertical work.now east south n.now a.now b.now)
+        (site_trial vertical gradients.entry.work.now gradients.entry.east gradients.entry.south gradients.entry.north.now a.now b.now)
         verticals.old verticals.new }
-    ensures wrote_3 { Wrote 0 at count (site_code work.now east south n.now) map.old map.new }
+    ensures wrote_3 { Wrote 0 at count
+        (site_code gradients.entry.work.now gradients.entry.east gradients.entry.south gradients.entry.north.now)
+        map.old map.new }
 {
-    let mut k = 0;
-    while k < count {
-        let g = half_rows::four(work, east, south, n, k);
+    for k in 0..count {
+        let g = gradients.at(k);
         let trial = try_site(g, a[k + 4], b[k + 4]);
-        let d = trial.diagonal;
-        let v = trial.vertical;
-        diagonals[at + k] = d;
-        verticals[at + k] = v;
+        diagonals[at + k] = trial.diagonal;
+        verticals[at + k] = trial.vertical;
         map[at + k] = trial.code;
-        k += 1;
     }
 }

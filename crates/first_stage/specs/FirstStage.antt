@@ -23,14 +23,6 @@ pub record LineLoaded (f : Frame) (i : ℕ) (rows rows' alongs alongs' : List �
   pub row_stored : RowStored f i (place_in_ring i * 4112) rows rows'
   pub sums_stored : Wrote 0 (place_in_ring i * 4112 + 6) (f.width + 2) (λ (k : ℕ). along_at rows' (place_in_ring i * 4112 + 6 + k)) alongs alongs'
 
--- the arrays that the stage fills for itself
-pub record FirstRoom (v : List ℕ) (gradients n a b : List ℤ) : Type 0 where
-  pub v_size : length v ≡ 4112
-  pub gradients_size : length gradients ≡ 4112
-  pub n_size : length n ≡ 2064
-  pub a_size : length a ≡ 2064
-  pub b_size : length b ≡ 2064
-
 -- what the first stage reads for row i: the rows of the mosaic to four off, their a, and the gradients of the two rows above
 pub record FirstLent (f : Frame) (i base : ℕ) (rows alongs : List ℕ) (tops work : List ℤ) : Type 0 where
   pub reads : FirstReads f i base tops work

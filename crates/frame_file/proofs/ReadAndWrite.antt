@@ -1,13 +1,11 @@
 -- Demand 2 over what the calls return and leave: read yields a frame from a file exactly when write makes the file from that frame.
 -- Assumes nothing.
-use Rattle.std.specs.Prelude.{◌≡◌, refl, ◌↔◌, List, ◌++◌, ℕ, ◌*◌, ◌≤◌, eqb, length, drop, take}
+use Rattle.std.specs.Prelude.{◌≡◌, refl, ◌↔◌, List, ◌++◌, ℕ, ◌*◌, ◌≤◌, eqb, length, drop, take, Ok}
 use Rattle.std.proofs.Common.{sym, ◌∙◌, ap, ap₂, arith, length-append, take_at}
 use Rattle.toolkit.specs.Tests.{eqb_yes}
 use Rattle.frame.specs.declared.Shape.{Shape}
-use Rattle.frame.specs.declared.Answer.TheVariants.{Done}
-use Rattle.frame.specs.declared.ReadAnswer.TheVariants as Read
 use Rattle.frame.specs.Sites.{Frame, frame}
-use Rattle.frame.specs.Calls.{Admitted}
+use Rattle.frame.specs.Calls.{Admitted, no_refusal, ReadAnswer}
 use Rattle.frame.proofs.Admission.{done_passed, passed_done}
 use Rattle.frame_file.specs.Lists.{Below}
 use Rattle.frame_file.specs.FrameFile.{sample_count, shape_of, file_length, written_file, write_answer, file_after_write, Reading, accepted, refused, answer_of, samples_of, reading, read_answer, samples_after_read}
@@ -16,30 +14,30 @@ use Rattle.frame_file.proofs.AcceptedExactlyWhenWritten.{accepted_is_written, ac
 
 -- write makes the file of f: lent a buffer of its length, it is done and leaves the file there, whatever stood there before
 pub record Makes (f : Frame) (file : List ℕ) : Type 0 where
-  pub answered : write_answer f (length file) ≡ Done
+  pub answered : write_answer f (length file) ≡ no_refusal
   pub left : (before : List ℕ) → length before ≡ length file → file_after_write f before ≡ file
 
 -- read yields f from the file: it answers with f's W, H and phase, and f's samples stand at the front of the lent buffer
 pub record Yields (file before : List ℕ) (f : Frame) : Type 0 where
-  pub answered : read_answer file (length before) ≡ Read.Frame (shape_of f)
+  pub answered : read_answer file (length before) ≡ Ok (shape_of f)
   pub left : samples_after_read file before ≡ f.samples ++ drop (sample_count f) before
 
 -- ---- write
 
-pub write_done : (f : Frame) → Admitted f → (n : ℕ) → n ≡ file_length f → write_answer f n ≡ Done
+pub write_done : (f : Frame) → Admitted f → (n : ℕ) → n ≡ file_length f → write_answer f n ≡ no_refusal
 unfolding write_answer
 write_done f a n e =
-    passed_done f Done (eqb n (file_length f)) Done
+    passed_done f no_refusal (eqb n (file_length f)) no_refusal
     (record { admitted = a; black_passes = refl; lengths_pass = rw (eqb_yes e) tt; none_is_under = refl })
 
-pub write_leaves : (f : Frame) (before : List ℕ) → write_answer f (length before) ≡ Done → file_after_write f before ≡ written_file f
+pub write_leaves : (f : Frame) (before : List ℕ) → write_answer f (length before) ≡ no_refusal → file_after_write f before ≡ written_file f
 unfolding file_after_write
 write_leaves f before e = rw e
 
 pub makes_written : (f : Frame) (file : List ℕ) → Makes f file → Admitted f × (file ≡ written_file f)
 unfolding write_answer
 makes_written f file m = (
-  (done_passed f Done (eqb (length file) (file_length f)) Done m.answered).admitted,
+  (done_passed f no_refusal (eqb (length file) (file_length f)) no_refusal m.answered).admitted,
   sym (m.left file refl) ∙ write_leaves f file m.answered,
 )
 
@@ -65,7 +63,7 @@ module _ (file before : List ℕ) (f : Frame) where
       sym (take_at g.samples d (length g.samples) refl) ∙ ap (take (length g.samples)) e
       ∙ take_at f.samples d (length g.samples) size
 
-  frames_equal : (g : Frame) → Read.Frame (shape_of g) ≡ Read.Frame (shape_of f)
+  frames_equal : (g : Frame) → ◌≡◌ {A = ReadAnswer} (Ok (shape_of g)) (Ok (shape_of f))
       → g.samples ++ drop (g.height * g.width) before ≡ f.samples ++ drop (sample_count f) before → g ≡ f
   frames_equal g e s =
       let shapes : shape_of g ≡ shape_of f = cc in
@@ -73,7 +71,7 @@ module _ (file before : List ℕ) (f : Frame) where
       (λ (t : Shape). drop (t.height * t.width) before) shapes in
       ap₂ frame shapes (samples_equal g (drop (sample_count f) before) (sym (ap (λ (t : List ℕ). g.samples ++ t) rest) ∙ s))
 
-  reading_is : (o : Reading) → answer_of o ≡ Read.Frame (shape_of f)
+  reading_is : (o : Reading) → answer_of o ≡ Ok (shape_of f)
       → samples_of o before ≡ f.samples ++ drop (sample_count f) before → o ≡ accepted f
   reading_is (accepted g) e s = ap accepted (frames_equal g e s)
   reading_is (refused why) e s = absurd (let z : ◌≡◌ {A = ℕ} 0 1 = cc in omega arith)

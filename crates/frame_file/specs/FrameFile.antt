@@ -1,15 +1,11 @@
 -- Document 01, "The frame file", and what read and write answer ("Calls and returns"). Definitions alone; their laws stand in the
 -- other modules of this crate. A byte is a natural number below 256, a file a list of them. Assumes nothing.
-use Rattle.std.specs.Prelude.{Bool, cond, ◌&&◌, List, [], ◌∷◌, ◌++◌, ℕ, zero, suc, ◌+◌, ◌*◌, ◌-◌, ◌/◌, ◌%◌, leb, eqb, length, get_or, take, drop}
+use Rattle.std.specs.Prelude.{Bool, cond, ◌&&◌, List, [], ◌∷◌, ◌++◌, ℕ, zero, suc, ◌+◌, ◌*◌, ◌-◌, ◌/◌, ◌%◌, leb, eqb, length, get_or, take, drop, Err, Ok}
 use Rattle.frame.specs.declared.Shape.{Shape}
 use Rattle.frame.specs.declared.Refusal.{Refusal}
 use Rattle.frame.specs.declared.Refusal.TheVariants.{BufferLength, FileLength, Check, Header, BlockNumber, Filler}
-use Rattle.frame.specs.declared.Answer.{Answer}
-use Rattle.frame.specs.declared.Answer.TheVariants.{Done}
-use Rattle.frame.specs.declared.ReadAnswer.{ReadAnswer}
-use Rattle.frame.specs.declared.ReadAnswer.TheVariants as Read
 use Rattle.frame.specs.Sites.{Frame, frame, side_allowed, phase_allowed}
-use Rattle.frame.specs.Calls.{answer_in_order, after}
+use Rattle.frame.specs.Calls.{answer_in_order, after, Answer, ReadAnswer, no_refusal}
 use Rattle.frame_file.specs.Lists.{part, joined, zeros, all_zero, same_list}
 
 -- W, H and the phase of a frame
@@ -147,7 +143,7 @@ written_file f = joined (block_count (sample_count f)) (written_block f)
 
 -- "Write needs exactly the file's length."; "The order is 1 to 5."; it takes no black level
 unfoldable pub write_answer : Frame → ℕ → Answer
-write_answer f lent_length = answer_in_order f Done (eqb lent_length (file_length f)) Done
+write_answer f lent_length = answer_in_order f no_refusal (eqb lent_length (file_length f)) no_refusal
 
 -- "Every refusal leaves every buffer untouched.": what the lent file holds after write
 unfoldable pub file_after_write : Frame → List ℕ → List ℕ
@@ -220,8 +216,8 @@ reading file room =
 
 -- "Success returns 0, 0, and read adds W, H and the phase; a refusal returns its number and place alone."
 abbrev pub answer_of : Reading → ReadAnswer
-answer_of (accepted f) = Read.Frame (shape_of f)
-answer_of (refused why) = Read.Refused why
+answer_of (accepted f) = Ok (shape_of f)
+answer_of (refused why) = Err why
 
 unfoldable pub read_answer : List ℕ → ℕ → ReadAnswer
 read_answer file room = answer_of (reading file room)

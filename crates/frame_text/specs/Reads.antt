@@ -1,14 +1,12 @@
 -- What read leaves, as the program lends it on: the frame of its shape and of the first W·H samples. Assumes nothing.
-use Rattle.std.specs.Prelude.{◌≡◌, ℕ, ◌*◌, ◌-◌, ◌<◌, ◌≤◌, length, take, drop}
+use Rattle.std.specs.Prelude.{◌≡◌, ℕ, ◌*◌, ◌-◌, ◌<◌, ◌≤◌, length, take, drop, Err, Ok}
 use Rattle.std.proofs.Math.Path.{refl, subst}
 use Rattle.std.proofs.Common.{sym, ◌∙◌, ap, arith, take_at}
 use mathlib.Core.List.{List}
-use Rattle.std.proofs.Math.Nat.{sub-zero}
 use Rattle.toolkit.specs.Tests.{ltb_yes, ltb_no}
 use Rattle.frame.specs.declared.Shape.{Shape}
 use Rattle.frame.specs.declared.Refusal.{Refusal}
 use Rattle.frame.specs.declared.Refusal.TheVariants.{BufferLength}
-use Rattle.frame.specs.declared.ReadAnswer.TheVariants as Read
 use Rattle.frame.specs.Sites.{Frame, frame}
 use Rattle.frame.specs.Calls.{develop_answer}
 use Rattle.frame_file.specs.FrameFile.{Reading, accepted, refused, reading, shape_of, sample_count, block_count, stored_frame, answer_of, samples_of, read_answer, samples_after_read}
@@ -44,21 +42,21 @@ module _ (file before : List ℕ) where
       (let c = accepted_counted file (length before) f e in
       record { enough = c.enough; found = e ∙ rw e (ap (λ (l : List ℕ). accepted (frame (shape_of f) l)) (sym (front_samples f c))) })
 
-  by_reading : (shape : Shape) (o : Reading) → reading file (length before) ≡ o → answer_of o ≡ Read.Frame shape → FrameRead file before shape
+  by_reading : (shape : Shape) (o : Reading) → reading file (length before) ≡ o → answer_of o ≡ Ok shape → FrameRead file before shape
   by_reading shape (accepted f) e a = read_accepted f shape e (cc)
   by_reading shape (refused why) e a = absurd (let z : ◌≡◌ {A = ℕ} 0 1 = cc in omega arith)
 
-  pub frame_read : (shape : Shape) → Read.Frame shape ≡ read_answer file (length before) → FrameRead file before shape
+  pub frame_read : (shape : Shape) → Ok shape ≡ read_answer file (length before) → FrameRead file before shape
   unfolding read_answer
   frame_read shape a = by_reading shape (reading file (length before)) refl (sym a)
 
-  refused_by : (why : Refusal) (o : Reading) → answer_of o ≡ Read.Refused why → o ≡ refused why
-  refused_by why (accepted f) a = absurd (let z : ◌≡◌ {A = ℕ} 0 1 = cc in omega arith)
-  refused_by why (refused other) a = cc
+refused_by : (why : Refusal) (o : Reading) → answer_of o ≡ Err why → o ≡ refused why
+refused_by why (accepted f) a = absurd (let z : ◌≡◌ {A = ℕ} 0 1 = cc in omega arith)
+refused_by why (refused other) a = cc
 
-  pub refusal_read : (why : Refusal) → Read.Refused why ≡ read_answer file (length before) → reading file (length before) ≡ refused why
-  unfolding read_answer
-  refusal_read why a = refused_by why (reading file (length before)) (sym a)
+refusal_read : (file : List ℕ) (room : ℕ) (why : Refusal) → Err why ≡ read_answer file room → reading file room ≡ refused why
+unfolding read_answer
+refusal_read file room why a = refused_by why (reading file room) (sym a)
 
 -- ---- what is printed in each case
 
@@ -70,18 +68,19 @@ pub short_printed : (file : List ℕ) → length file ≤ 2048 → text_of (read
 unfolding printed
 short_printed file h = rw (ltb_no {m = 2048} {n = length file} h)
 
-module _ (file before : List ℕ) (size : length before ≡ 1024) where
-  pub refusal_printed : (why : Refusal) → Read.Refused why ≡ read_answer file (length before) → refusal_text why ≡ text_of (reading file 1024)
-  refusal_printed why a = rw (← size, refusal_read file before why a)
+pub refusal_printed : (file : List ℕ) (why : Refusal) → Err why ≡ read_answer file 1024 → refusal_text why ≡ text_of (reading file 1024)
+refusal_printed file why a = rw (refusal_read file 1024 why a)
 
-  pub few : (shape : Shape) → Read.Frame shape ≡ read_answer file (length before) → shape.height * shape.width ≤ 1024
-  few shape a = omega (arith, (frame_read file before shape a).enough)
+module _ (file before : List ℕ) (size : length before ≡ 1024) (shape : Shape) (samples : List ℕ) (a : Ok shape ≡ read_answer file 1024)
+    (left : samples ≡ samples_after_read file before) where
+  found : FrameRead file before shape
+  found = frame_read file before shape (rw size a)
 
-  pub frame_printed : (shape : Shape) (samples : List ℕ) → Read.Frame shape ≡ read_answer file (length before)
-      → samples ≡ samples_after_read file before
-      → text_of_developed (frame shape (take (shape.height * shape.width - 0) (drop 0 samples)))
-      (develop_answer (frame shape (take (shape.height * shape.width - 0) (drop 0 samples))) black_level
-      (lent (frame shape (take (shape.height * shape.width - 0) (drop 0 samples)))))
+  pub few : shape.height * shape.width ≤ 1024
+  few = omega (arith, found.enough)
+
+  pub frame_printed : text_of_developed (frame shape (take (shape.height * shape.width) samples))
+      (develop_answer (frame shape (take (shape.height * shape.width) samples)) black_level
+      (lent (frame shape (take (shape.height * shape.width) samples))))
       ≡ text_of (reading file 1024)
-  frame_printed shape samples a left =
-      rw (sub-zero (shape.height * shape.width), left, ← size, (frame_read file before shape a).found)
+  frame_printed = rw (left, ← size, found.found)

@@ -1,181 +1,131 @@
-// The text that the program prints of a file, composed into a lent buffer.
+// The text that the program prints of a file.
 #![tactic(auto)]
 
-ghost use Rattle.std.specs.Prelude.{◌≡◌, ◌+◌, ◌*◌, ◌<◌, ◌≤◌, length};
+ghost use Rattle.std.specs.Prelude.{◌≡◌, ◌++◌, ◌+◌, ◌*◌, ◌<◌, ◌≤◌, length};
 ghost use Rattle.frame.specs.Sites.{frame as frame_of};
 ghost use Rattle.frame.specs.Calls.{develop_answer, clamped};
 ghost use Rattle.frame_file.specs.Lists.{joined};
 ghost use Rattle.frame_file.specs.FrameFile.{reading};
-ghost use Rattle.printing.specs.Printing.{black_level, lent, text_of_developed, text_of};
-ghost use Rattle.text.specs.Put.{Put};
+ghost use Rattle.printing.specs.Printing.{black_level, lent, text_of_developed, text_of, printed};
 ghost use Rattle.frame_text.specs.PlanesText.{entry_of_clamped, planes_line, text_of_planes, ClampedNumbers};
-ghost use Rattle.frame_text.specs.Buffers.{PlanesLent};
-ghost use Rattle.frame_text.specs.TextLeft.{TextLeft};
+ghost use Rattle.frame_text.specs.Composes.{Composes};
 
-use frame::{Answer, ReadAnswer, Refusal, Shape};
+use frame::{Refusal, Shape};
+use text::{ROOM, Text};
 
 // Entry k of a clamped plane.
 fn clamped_entry(plane: &[i32], k: usize) -> usize
-    requires { (ClampedNumbers plane.now) × (k < length plane.now) }
+    requires { k < length plane.now }
     ensures { result ≡ entry_of_clamped plane.now k }
 {
-    plane[k] as usize
+    plane[k].unsigned_abs() as usize
 }
 
 // The lines of all sites, from the clamped planes.
-fn lines(
-    text: &mut [u8],
-    at: usize,
-    width: usize,
-    red: &[i32],
-    green: &[i32],
-    blue: &[i32],
-) -> usize
+fn lines(text: &mut Text, width: usize, red: &[i32], green: &[i32], blue: &[i32])
     requires width_nonzero { (0 < width) × (length green.now ≡ length red.now) × (length blue.now ≡ length red.now) }
-    requires clamped_numbers { (ClampedNumbers red.now) × (ClampedNumbers green.now) × (ClampedNumbers blue.now) }
-    requires blue_in_bounds { at + length (joined (length red.now) (planes_line width red.now green.now blue.now)) ≤ length text.old }
-    ensures { Put text.old at
-        (joined (length red.now) (planes_line width red.now green.now blue.now)) text.new result }
+    requires blue_in_bounds { length text.old.bytes + length (joined (length red.now) (planes_line width red.now green.now blue.now)) ≤ ROOM }
+    ensures { text.new.bytes ≡ text.old.bytes ++ joined (length red.now) (planes_line width red.now green.now blue.now) }
 {
-    let mut next = at;
-    let mut k: usize = 0;
-    while k < red.len() {
-        next = text::site_line(
+    for k in 0..red.len() {
+        text::site_line(
             text,
-            next,
             k / width,
             k % width,
             clamped_entry(red, k),
             clamped_entry(green, k),
             clamped_entry(blue, k),
         );
-        k += 1;
     }
-    next
 }
 
 // The heading and the lines.
-fn planes_text(text: &mut [u8], width: usize, red: &[i32], green: &[i32], blue: &[i32]) -> usize
+fn planes_text(width: usize, red: &[i32], green: &[i32], blue: &[i32]) -> Text
     requires width_nonzero { (0 < width) × (length green.now ≡ length red.now) × (length blue.now ≡ length red.now) }
     requires clamped_numbers { (ClampedNumbers red.now) × (ClampedNumbers green.now) × (ClampedNumbers blue.now) }
-    requires red_len_bound { (length red.now ≤ 1024) × (25623 ≤ length text.old) }
-    ensures { Put text.old 0 (text_of_planes width red.now green.now blue.now) text.new result }
+    requires red_len_bound { length red.now ≤ 1024 }
+    ensures { result.bytes ≡ text_of_planes width red.now green.now blue.now }
 {
-    let next = text::bytes(text, 0, b"row col red green blue\n");
-    lines(text, next, width, red, green, blue)
+    let mut text = Text::new();
+    text.push_str("row col red green blue\n");
+    lines(&mut text, width, red, green, blue);
+    text
 }
 
-// Clamps a plane into one of equal length.
-fn clamp_plane(plane: &[i32], filled: &mut [i32])
-    requires { length filled.old ≡ length plane.now }
-    ensures { filled.new ≡ clamped plane.now }
+// A plane of at most 1,024 numbers, clamped.
+#[tactic(auto, using(crate::specs::Composing::clamp_allowed))]
+fn clamped_plane<'a>(plane: &[i32], filled: &'a mut [i32; 1024]) -> &'a [i32]
+    requires { length plane.now ≤ 1024 }
+    ensures { result.now ≡ clamped plane.now }
 {
-    clamp::clamp(plane, filled);
+    let filled = &mut filled[..plane.len()];
+    clamp::clamp(plane, filled).unwrap();
+    filled
 }
 
-// The text of a frame: developed at black level 0, clamped into reds, greens and blues, and printed; or develop's refusal.
-fn developed_text(
-    text: &mut [u8],
-    shape: Shape,
-    mosaic: &[u16],
-    red: &mut [i32],
-    green: &mut [i32],
-    blue: &mut [i32],
-    map: &mut [u8],
-    work: &mut [i32],
-    reds: &mut [i32],
-    greens: &mut [i32],
-    blues: &mut [i32],
-) -> usize
-    requires width_bound { (shape.height * shape.width ≤ 1024) × (25623 ≤ length text.old) }
-    requires planes_lent { PlanesLent (shape.height * shape.width) red.old green.old blue.old map.old work.old
-        reds.old greens.old blues.old }
-    ensures { Put text.old 0
-        (text_of_developed (frame_of shape mosaic.now) (develop_answer (frame_of shape mosaic.now) black_level (lent (frame_of shape mosaic.now))))
-        text.new result }
+// The text of three planes, clamped.
+#[tactic(auto, using(crate::specs::PlanesText::clamped_clamped, crate::specs::PlanesText::length_clamped_list))]
+fn clamped_text(width: usize, red: &[i32], green: &[i32], blue: &[i32]) -> Text
+    requires width_nonzero { (0 < width) × (length green.now ≡ length red.now) × (length blue.now ≡ length red.now) }
+    requires red_len_bound { length red.now ≤ 1024 }
+    ensures { result.bytes ≡ text_of_planes width (clamped red.now) (clamped green.now) (clamped blue.now) }
 {
-    match develop::develop(shape, 0, mosaic, red, green, blue, map, work) {
-        Answer::Refused(why) => text::refusal(text, why),
-        Answer::Done => {
-            clamp_plane(red, reds);
-            clamp_plane(green, greens);
-            clamp_plane(blue, blues);
-            planes_text(text, shape.width, reds, greens, blues)
-        }
-    }
+    let mut reds = [0; 1024];
+    let mut greens = [0; 1024];
+    let mut blues = [0; 1024];
+    let reds = clamped_plane(red, &mut reds);
+    let greens = clamped_plane(green, &mut greens);
+    let blues = clamped_plane(blue, &mut blues);
+    planes_text(width, reds, greens, blues)
 }
 
-// The text of what read finds in a file, by buffers for 1,024 samples.
-fn file_text(
-    file: &[u8],
-    text: &mut [u8],
-    samples: &mut [u16],
-    red: &mut [i32],
-    green: &mut [i32],
-    blue: &mut [i32],
-    map: &mut [u8],
-    work: &mut [i32],
-    reds: &mut [i32],
-    greens: &mut [i32],
-    blues: &mut [i32],
-) -> usize
-    requires in_bounds { (25623 ≤ length text.old) × (length samples.old ≡ 1024) }
-    requires planes_lent { PlanesLent 1024 red.old green.old blue.old map.old work.old reds.old greens.old blues.old }
-    ensures { Put text.old 0 (text_of (reading file.now 1024)) text.new result }
+// The text of a frame of at most 1,024 samples: developed at black level 0, clamped, and printed; or develop's refusal.
+fn developed_text(shape: Shape, mosaic: &[u16]) -> Result<Text, Refusal>
+    requires { shape.height * shape.width ≤ 1024 }
+    ensures { Composes result (text_of_developed (frame_of shape mosaic.now)
+        (develop_answer (frame_of shape mosaic.now) black_level (lent (frame_of shape mosaic.now)))) }
 {
-    match reader::read(file, samples) {
-        ReadAnswer::Refused(why) => text::refusal(text, why),
-        ReadAnswer::Frame(shape) => {
-            let count = shape.height * shape.width;
-            let size = 4 * count;
-            developed_text(
-                text,
-                shape,
-                &samples[0..count],
-                &mut red[0..count],
-                &mut green[0..count],
-                &mut blue[0..count],
-                &mut map[0..count],
-                &mut work[0..size],
-                &mut reds[0..count],
-                &mut greens[0..count],
-                &mut blues[0..count],
-            )
-        }
-    }
+    let count = shape.height * shape.width;
+    let mut red = [0; 1024];
+    let mut green = [0; 1024];
+    let mut blue = [0; 1024];
+    let mut map = [0; 1024];
+    let mut work = [0; 4096];
+    let red = &mut red[..count];
+    let green = &mut green[..count];
+    let blue = &mut blue[..count];
+    develop::develop(
+        shape,
+        0,
+        mosaic,
+        red,
+        green,
+        blue,
+        &mut map[..count],
+        &mut work[..4 * count],
+    )?;
+    Ok(clamped_text(shape.width, red, green, blue))
 }
 
-// Composes the text that the program prints of a file, and answers its length. A buffer of less than 25,623 bytes is left as it was,
-// and the answer is 0.
-pub fn compose(file: &[u8], text: &mut [u8]) -> usize
-    ensures { TextLeft file.now text.old text.new result }
+// The text of what read finds in a file, with room for 1,024 samples; or the refusal.
+fn file_text(file: &[u8]) -> Result<Text, Refusal>
+    ensures { Composes result (text_of (reading file.now 1024)) }
 {
-    if text.len() < 25623 {
-        return 0;
-    }
+    let mut samples = [0; 1024];
+    let shape = reader::read(file, &mut samples)?;
+    developed_text(shape, &samples[..shape.height * shape.width])
+}
+
+// The text that the program prints of a file.
+#[tactic(auto, using(crate::specs::Reads::long_printed, crate::specs::Reads::short_printed))]
+pub fn compose(file: &[u8]) -> Text
+    ensures { result.bytes ≡ printed file.now }
+{
     if file.len() > 2048 {
-        return text::refusal(text, Refusal::BufferLength);
+        return text::refusal(Refusal::BufferLength);
     }
-    let mut samples = [0u16; 1024];
-    let mut red = [0i32; 1024];
-    let mut green = [0i32; 1024];
-    let mut blue = [0i32; 1024];
-    let mut map = [0u8; 1024];
-    let mut work = [0i32; 4096];
-    let mut reds = [0i32; 1024];
-    let mut greens = [0i32; 1024];
-    let mut blues = [0i32; 1024];
-    file_text(
-        file,
-        text,
-        &mut samples,
-        &mut red,
-        &mut green,
-        &mut blue,
-        &mut map,
-        &mut work,
-        &mut reds,
-        &mut greens,
-        &mut blues,
-    )
+    match file_text(file) {
+        Ok(text) => text,
+        Err(why) => text::refusal(why),
+    }
 }

@@ -1,4 +1,4 @@
--- The gradients of the red and blue sites of a row, as `four` reads them. Assumes nothing.
+-- The gradients of the red and blue sites of a row, as `SiteGradients::at` reads them. Assumes nothing.
 use Rattle.std.specs.Prelude.{◌≡◌, refl, List, ℕ, ◌+◌, ◌*◌, ◌-◌, ◌<◌, ◌≤◌, ℤ, pos, length}
 use Rattle.std.proofs.Common.{sym, ◌∙◌, ap, arith}
 use Rattle.toolkit.specs.Entries.{Entries}

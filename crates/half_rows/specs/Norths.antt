@@ -17,7 +17,7 @@ module _ (tops work : List ℤ) (W i k : ℕ) where
   north_of_work h = rw (ltb_no {m = i} {n = 2} h)
 
 -- the S of row i − 2 lies in work
-pub south_inside : (W i base at count : ℕ) (tops work n : List ℤ) → NorthRoom W i base at count tops work n → 2 ≤ i
+pub south_inside : (W i base at count : ℕ) (tops work : List ℤ) → NorthRoom W i base at count tops work → 2 ≤ i
     → place_in_ring (i - 2) * record_size W + south_part W + at + count ≤ length work
-south_inside W i base at count tops work n r h =
+south_inside W i base at count tops work r h =
     omega (arith, r.wide, r.inside, r.work_start, ring_end i (record_size W) (i - 2) (omega arith))

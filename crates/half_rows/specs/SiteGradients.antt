@@ -1,4 +1,4 @@
--- What `four` reads of the records is the four gradients of a site. Assumes nothing.
+-- What `SiteGradients::at` reads of the records is the four gradients of a site. Assumes nothing.
 use Rattle.std.specs.Prelude.{◌≡◌, List, ℕ, ◌+◌, ◌*◌, ◌-◌, ◌<◌, ◌≤◌, ltb, ℤ, length}
 use Rattle.std.proofs.Math.Path.{refl, ap}
 use Rattle.std.proofs.Common.{sym, ◌∙◌}
@@ -48,9 +48,9 @@ pub own_record : {f : Frame} {i base : ℕ} {tops work : List ℤ} → Lent f i 
 own_record l = near_record l _ (omega arith) (omega arith) l.inside
 
 -- what `north` asks
-pub north_room : (f : Frame) (i base at count : ℕ) (tops work n : List ℤ) → Lent f i base tops work → at + count ≤ f.width → count ≤ 2048 → length n ≡ 2064
-    → NorthRoom f.width i base at count tops work n
-north_room f i base at count tops work n l inside few size = record {
+pub north_room : (f : Frame) (i base at count : ℕ) (tops work : List ℤ) → Lent f i base tops work → at + count ≤ f.width → count ≤ 2048
+    → NorthRoom f.width i base at count tops work
+north_room f i base at count tops work l inside few = record {
   wide = l.taken.wide;
   narrow = l.taken.narrow;
   low = omega (arith, l.inside, l.taken.low);
@@ -60,7 +60,6 @@ north_room f i base at count tops work n l inside few size = record {
   round = l.round;
   work_start = omega (arith, l.work_size, row_end f.height (record_size f.width) i l.inside);
   work_most = work_most f i base tops work l;
-  row_size = size;
 }
 
 module _ (f : Frame) (i : ℕ) (tops work : List ℤ) (g : Gradients f (i - 2) (i + 1) tops work) where

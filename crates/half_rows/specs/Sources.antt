@@ -1,4 +1,4 @@
--- Which entries `mirror`, `north` and `four` read, and how large entries are. Definitions alone. Assumes nothing.
+-- Which entries `mirror`, `north` and `SiteGradients::at` read, and how large entries are. Definitions alone. Assumes nothing.
 use Rattle.std.specs.Prelude.{◌≡◌, cond, List, [], ◌∷◌, ℕ, ◌+◌, ◌*◌, ◌-◌, ◌/◌, ◌<◌, ◌≤◌, ltb, ℤ, pos, nat_abs, length, get_or}
 use Rattle.method.specs.Sizes.{Naturals}
 use Rattle.positions.specs.Columns.{column_at}
@@ -23,7 +23,7 @@ abbrev pub four_entries : List ℤ → ℕ → ℕ → List ℤ → ℕ → List
 four_entries work east south n k =
     get_or work (east + k + 1) (pos 0) ∷ get_or work (east + k) (pos 0) ∷ get_or work (south + k) (pos 0) ∷ get_or n (k + 4) (pos 0) ∷ []
 
--- what `four` is asked for count sites, and that what it reads is four gradients
+-- what `SiteGradients::at` is asked for count sites, and that what it reads is four gradients
 pub record GradientsFit (count east south : ℕ) (work n : List ℤ) : Type 0 where
   pub few : count ≤ 2048
   pub east_in : east + count + 1 ≤ length work
@@ -31,8 +31,8 @@ pub record GradientsFit (count east south : ℕ) (work n : List ℤ) : Type 0 wh
   pub most : length work ≤ 67108864
   pub each : (k : ℕ) → k < count → Naturals 40920 (four_entries work east south n k)
 
--- what `north` is lent: tops, the records of the rows before row i, and a half row for the entries at to at + count − 1 of row i
-pub record NorthRoom (W i base at count : ℕ) (tops work n : List ℤ) : Type 0 where
+-- what `north` is lent: tops, and the records of the rows before row i; it is asked for the entries at to at + count − 1 of row i
+pub record NorthRoom (W i base at count : ℕ) (tops work : List ℤ) : Type 0 where
   pub wide : 2 ≤ W
   pub narrow : W ≤ 4096
   pub low : i ≤ 4096
@@ -42,4 +42,3 @@ pub record NorthRoom (W i base at count : ℕ) (tops work n : List ℤ) : Type 0
   pub tops_size : length tops ≡ 2 * top_size
   pub work_start : i * record_size W ≤ length work
   pub work_most : length work ≤ 67108864
-  pub row_size : length n ≡ 2064

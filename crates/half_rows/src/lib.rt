@@ -8,17 +8,68 @@ ghost use Rattle.frame.specs.Sites.{reflect};
 ghost use Rattle.positions.specs.HalfRows.{half_count};
 ghost use Rattle.half_rows.specs.Sources.{source_entry, north_entry, four_entries, NorthRoom};
 
+use positions::Row;
+
+// A half row for each way to find green at a red or blue site: across, down, and by the mean of the two.
+#[derive(Drop)]
+pub struct ThreeWays {
+    pub across: [i32; 2064],
+    pub vertical: [i32; 2064],
+    pub diagonal: [i32; 2064],
+}
+
+// The rows that the stages of the sweep work in. Each stage fills anew what it reads.
+#[derive(Drop)]
+pub struct Scratch {
+    // sums down the columns, and gradients, at all columns of a row
+    pub pairs: [u16; 4112],
+    pub gradients: [i32; 4112],
+    // N of a half row, and two half rows more: as a rule of the row's own red or blue, and of the other
+    pub north: [i32; 2064],
+    pub own: [i32; 2064],
+    pub other: [i32; 2064],
+    // for the second pass what is tried at a site, and the sums that choose among it
+    pub trials: ThreeWays,
+    pub sums: ThreeWays,
+    // the entries of the map
+    pub codes: [u8; 2048],
+}
+
+// Where the gradients of a half row of sites stand: E of the row from two columns west on, S, and N.
+#[derive(Clone, Copy)]
+pub struct SiteGradients<'a> {
+    pub work: &'a [i32],
+    pub east: usize,
+    pub south: usize,
+    pub north: &'a [i32; 2064],
+}
+
+impl SiteGradients<'_> {
+    // The four gradients of a site, E, W, S, N.
+    pub fn at(self, k: usize) -> [i64; 4]
+        requires { (k < 2048) × (self.east + k + 1 < length self.work.now) × (self.south + k < length self.work.now)
+            × (length self.work.now ≤ 67108864) }
+        ensures { result ≡ four_entries self.entry.work.now self.entry.east self.entry.south self.entry.north.now k }
+    {
+        let west_at = self.east + k;
+        let east_at = west_at + 1;
+        [
+            i64::from(self.work[east_at]),
+            i64::from(self.work[west_at]),
+            i64::from(self.work[self.south + k]),
+            i64::from(self.north[k + 4]),
+        ]
+    }
+}
+
 // A half row, between room for four entries on each side.
+#[tactic(auto, using(std::proofs::lemmas::List::places))]
 pub fn copy(src: &[i32], at: usize, count: usize, dst: &mut [i32; 2064])
-    requires { (at + count ≤ length src.now) × (length src.now ≤ 67108864) × (count ≤ 2048) × (length dst.old ≡ 2064) }
+    requires { (at + count ≤ length src.now) × (length src.now ≤ 67108864) × (count ≤ 2048) }
     ensures { Entries (pos 0) 2064 4 (count + 4)
         (λ (x : ℕ). get_or src.now (at + (x - 4)) (pos 0)) dst.new }
 {
-    let mut k = 0;
-    while k < count {
-        dst[k + 4] = src[at + k];
-        k += 1;
-    }
+    dst[4..count + 4].copy_from_slice(&src[at..at + count]);
 }
 
 // Stores a half row from position at on.
@@ -26,11 +77,7 @@ pub fn store(src: &[i32; 2064], count: usize, dst: &mut [i32], at: usize)
     requires { (count ≤ 2048) × (at + count ≤ length dst.old) × (length dst.old ≤ 67108864) }
     ensures { Wrote (pos 0) at count (λ (k : ℕ). get_or src.now (k + 4) (pos 0)) dst.old dst.new }
 {
-    let mut k = 0;
-    while k < count {
-        dst[at + k] = src[k + 4];
-        k += 1;
-    }
+    dst[at..at + count].copy_from_slice(&src[4..count + 4]);
 }
 
 // Where the column x, reflected, stands among the columns c, c + 2, ..
@@ -43,54 +90,34 @@ fn column_place(w: usize, c: usize, x: usize) -> usize
 
 // The reflected entries of the half row of columns c, c + 2, .., t on each side.
 pub fn mirror(row: &mut [i32; 2064], w: usize, c: usize, t: usize)
-    requires { (2 ≤ w) × (w ≤ 4096) × (c ≤ 1) × (t ≤ 4) × (length row.old ≡ 2064) }
+    requires { (2 ≤ w) × (w ≤ 4096) × (c ≤ 1) × (t ≤ 4) }
     ensures { Entries (pos 0) 2064 (4 - t) (half_count w c + 4 + t)
         (λ (x : ℕ). get_or row.old (source_entry w c x) (pos 0)) row.new }
 {
     let count = positions::half_count(w, c);
-    let mut k = 1;
-    while k < t + 1 {
+    for k in 1..t + 1 {
         let west = column_place(w, c, 2 * k - c);
         let east = column_place(w, c, c + 2 * (count - 1 + k));
         row[4 - k] = row[west + 4];
         row[count + 3 + k] = row[east + 4];
-        k += 1;
     }
 }
 
 // N of count sites of row i, from entry at of the row on: S of row i − 2, and that of the top rows in tops.
-pub fn north(
-    tops: &[i32],
-    work: &[i32],
-    w: usize,
-    i: usize,
-    base: usize,
-    at: usize,
-    count: usize,
-    n: &mut [i32; 2064],
-)
-    requires { NorthRoom w i base at count tops.now work.now n.old }
+pub fn north(tops: &[i32], work: &[i32], row: Row, at: usize, count: usize, n: &mut [i32; 2064])
+    requires { NorthRoom row.shape.width row.index row.base at count tops.now work.now }
     ensures { Entries (pos 0) 2064 4 (count + 4)
-        (λ (x : ℕ). north_entry tops.now work.now w i (at + (x - 4))) n.new }
+        (λ (x : ℕ). north_entry tops.now work.now row.shape.width row.index (at + (x - 4))) n.new }
 {
+    let i = row.index;
     if i < 2 {
         copy(tops, i * 4112 + at, count, n);
     } else {
-        copy(work, records::south_at(w, i - 2, base) + at, count, n);
+        let two_up = Row {
+            shape: row.shape,
+            index: i - 2,
+            base: row.base,
+        };
+        copy(work, records::south_at(two_up) + at, count, n);
     }
-}
-
-// The four gradients of a site, E, W, S, N: E of the half row stands from two columns west on.
-pub fn four(work: &[i32], east: usize, south: usize, n: &[i32; 2064], k: usize) -> [i64; 4]
-    requires { (k < 2048) × (east + k + 1 < length work.now) × (south + k < length work.now) × (length work.now ≤ 67108864) }
-    ensures { result ≡ four_entries work.now east south n.now k }
-{
-    let west_at = east + k;
-    let east_at = west_at + 1;
-    [
-        work[east_at] as i64,
-        work[west_at] as i64,
-        work[south + k] as i64,
-        n[k + 4] as i64,
-    ]
 }

@@ -11,10 +11,11 @@ ghost use Rattle.means.specs.Zeros.{ZerosFit};
 ghost use Rattle.means.specs.Lifts.{lifted_values, LiftFits, LiftedMeanFits};
 
 // 1 for a gradient of 0, 0 for any other.
+#[tactic(auto, unfolding(method::specs::Planes::one_if_zero))]
 fn one_for_zero(g: u64) -> u64
     ensures { (result ≡ one_if_zero g) × (result ≤ 1) }
 {
-    if g == 0 { 1 } else { 0 }
+    u64::from(g == 0)
 }
 
 // x·g + y·h.
@@ -26,6 +27,7 @@ fn paired(x: u64, g: u64, y: u64, h: u64) -> u64
 }
 
 // n/d to the nearest whole number, halves upward.
+#[tactic(auto, using(crate::specs::Products::natural_round))]
 fn rounded(n: u64, d: u64) -> u64
     requires { (0 < d) × (n + d < 2 ^ 64) }
     ensures { pos result ≡ round_half_up (pos n) d }
@@ -34,6 +36,7 @@ fn rounded(n: u64, d: u64) -> u64
 }
 
 // The mean of the values whose gradient is 0, of which there is one at least.
+#[tactic(auto, unfolding(method::specs::Planes::count_zeros))]
 fn mean_of_zeros(v: [u64; 4], g: [u64; 4]) -> u64
     requires { ZerosFit v g }
     ensures { pos result ≡ weighted_mean (signed (numbers v)) (numbers g) }
@@ -49,6 +52,7 @@ fn mean_of_zeros(v: [u64; 4], g: [u64; 4]) -> u64
 
 // The weighted mean of naturals. All is times the product of the four gradients, so that each weight is the product of the other three.
 // Sum and divisor are formed before the test, so that nothing is left to do behind it but the division.
+#[tactic(auto, using(crate::specs::Products::quotient_below, crate::specs::Products::some_zero))]
 fn natural_mean(v: [u64; 4], g: [u64; 4]) -> u64
     requires { NaturalMeanFits v g }
     ensures { pos result ≡ weighted_mean (signed (numbers v)) (numbers g) }
@@ -89,7 +93,12 @@ fn lifted(v: [i64; 4], reach: i64) -> [i64; 4]
 pub fn values(east: i32, west: i32, south: i32, north: i32) -> [i64; 4]
     ensures { result ≡ (east ∷ west ∷ south ∷ north ∷ []) }
 {
-    [east as i64, west as i64, south as i64, north as i64]
+    [
+        i64::from(east),
+        i64::from(west),
+        i64::from(south),
+        i64::from(north),
+    ]
 }
 
 // The weighted mean of values from −reach to reach, lifted by reach so that the division is of unsigned numbers.

@@ -11,37 +11,36 @@ ghost use Rattle.mosaic_rows.specs.LoadedRows.{RowStored, NearRows, near_entry, 
 
 use frame::Shape;
 
+// The loaded rows, and a at their entries.
+#[derive(Drop)]
+pub struct LoadedRows {
+    pub samples: [u16; 98688],
+    pub alongs: [u16; 98688],
+}
+
 // The w samples from entry at on, as the columns of the row at entry to.
 fn middle(mosaic: &[u16], at: usize, rows: &mut [u16; 98688], to: usize, w: usize)
     requires w_in_bounds { (at + w ≤ length mosaic.now) × (w ≤ 4096) × (to + 4112 ≤ 98688) }
-    requires rows_len { length rows.old ≡ 98688 }
     ensures { Wrote 0 (to + 8) w (λ (j : ℕ). get_or mosaic.now (at + j) 0) rows.old rows.new }
 {
-    let mut j = 0;
-    while j < w {
-        rows[to + 8 + j] = mosaic[at + j];
-        j += 1;
-    }
+    rows[to + 8..to + 8 + w].copy_from_slice(&mosaic[at..at + w]);
 }
 
 // Eight reflected columns on each side of the row at entry to.
 fn edges(rows: &mut [u16; 98688], to: usize, w: usize)
     requires le_w { (2 ≤ w) × (w ≤ 4096) × (to + 4112 ≤ 98688) }
-    requires rows_len { length rows.old ≡ 98688 }
     ensures { Wrote 0 to (w + 16) (λ (x : ℕ). get_or rows.old (to + 8 + column_at w x) 0) rows.old rows.new }
 {
-    let mut k = 1;
-    while k < 9 {
+    for k in 1..9 {
         rows[to + 8 - k] = rows[to + 8 + positions::reflected(w, k)];
         rows[to + w + 7 + k] = rows[to + 8 + positions::reflected(w, w - 1 + k)];
-        k += 1;
     }
 }
 
 // Row i of the mosaic, at entry to.
 pub fn load(mosaic: &[u16], shape: Shape, i: usize, rows: &mut [u16; 98688], to: usize)
     requires taken { Taken (frame shape mosaic.now) }
-    requires i_lt_height { (i < shape.height) × (to + 4112 ≤ 98688) × (length rows.old ≡ 98688) }
+    requires i_lt_height { (i < shape.height) × (to + 4112 ≤ 98688) }
     ensures { RowStored (frame shape mosaic.now) i to rows.old rows.new }
 {
     let w = shape.width;
@@ -50,6 +49,7 @@ pub fn load(mosaic: &[u16], shape: Shape, i: usize, rows: &mut [u16; 98688], to:
 }
 
 // Where row i stands; base is a row at place 0.
+#[tactic(auto, using(positions::specs::RingLaws::ring_small))]
 pub fn row_at(i: usize, base: usize) -> usize
     requires { (i ≤ 4096) × (Round base i i) }
     ensures { (result ≡ place_in_ring i * 4112) × (result + 4112 ≤ 98688) }
@@ -58,6 +58,7 @@ pub fn row_at(i: usize, base: usize) -> usize
 }
 
 // Where row x − 4 + p stands, reflected. The gradients of row x − 2 are read for sites at most 10 rows away, so row x lies at most 12 away.
+#[tactic(auto, unfolding(crate::specs::LoadedRows::near_entry))]
 fn near_row(h: usize, x: usize, p: usize, base: usize) -> usize
     requires le_h { (2 ≤ h) × (h ≤ 4096) × (x ≤ 4098) × (p < 7) }
     requires near_rows { NearRows h x base }

@@ -7,13 +7,15 @@ ghost use Rattle.toolkit.specs.Writes.{Wrote};
 ghost use Rattle.method.specs.Four.{directions, sizes};
 ghost use Rattle.method.specs.Planes.{weighted_mean, final_round};
 ghost use Rattle.method.specs.Sizes.{AtMost, Naturals};
-ghost use Rattle.positions.specs.Rings.{Round};
+ghost use Rattle.positions.specs.Rings.{place_in_ring, Round};
+ghost use Rattle.records.specs.Layout.{record_size, final_part, other_part};
 ghost use Rattle.half_rows.specs.Sources.{Sized};
 ghost use Rattle.out_rows.specs.Woven.{woven};
 ghost use Rattle.out_rows.specs.RowPlaces.{RowOf, Placed};
 ghost use Rattle.out_rows.specs.DirectMeans.{own_mean, other_mean, DirectReads};
 
-use frame::Shape;
+use half_rows::SiteGradients;
+use positions::Row;
 
 // Where the differences of a row start in work: the final ones, and those of the other colour.
 #[derive(Clone, Copy)]
@@ -38,57 +40,55 @@ pub struct Places {
     pub above: Differences,
 }
 
-// The places of row i; base is a row at place 0 of the records' ring. Row i is the site's own.
-pub fn row_places(shape: Shape, i: usize, base: usize) -> Places
-    requires { (RowOf shape i) × (Round base (i - 4) (i + 4)) }
-    ensures { Placed shape i result }
+// Where the differences of the row at index start, of the same frame as row.
+fn differences_of(row: Row, index: usize) -> Differences
+    requires { (index ≤ 4096) × (Round row.base index index) }
+    ensures finals { result.finals ≡ place_in_ring index * record_size row.shape.width + final_part row.shape.width }
+    ensures others { result.others ≡ place_in_ring index * record_size row.shape.width + other_part row.shape.width }
 {
-    let w = shape.width;
-    let h = shape.height;
-    let start = positions::first_chroma(shape.phase, i);
+    let that = Row {
+        shape: row.shape,
+        index: index,
+        base: row.base,
+    };
+    Differences {
+        finals: records::final_at(that),
+        others: records::other_at(that),
+    }
+}
+
+// The places of a row, which is the site's own.
+pub fn row_places(row: Row) -> Places
+    requires { (RowOf row.shape row.index) × (Round row.base (row.index - 4) (row.index + 4)) }
+    ensures { Placed row.shape row.index result }
+{
+    let w = row.shape.width;
+    let h = row.shape.height;
+    let i = row.index;
+    let start = positions::first_chroma(row.shape.phase, i);
     let count = positions::half_count(w, start);
     let down = positions::row_below(h, i, 1, 0);
     let up = positions::row_above(h, i, 1, 0);
-    let here = Differences {
-        finals: records::final_at(w, i, base),
-        others: records::other_at(w, i, base),
-    };
-    let below = Differences {
-        finals: records::final_at(w, down, base),
-        others: records::other_at(w, down, base),
-    };
-    let above = Differences {
-        finals: records::final_at(w, up, base),
-        others: records::other_at(w, up, base),
-    };
     Places {
         start: start,
         count: count,
         rest: w - count,
-        east: records::record_at(w, i, base) + (count + 1),
-        south: records::south_at(w, i, base) + count,
-        here: here,
-        below: below,
-        above: above,
+        east: records::record_at(row) + (count + 1),
+        south: records::south_at(row) + count,
+        here: differences_of(row, i),
+        below: differences_of(row, down),
+        above: differences_of(row, up),
     }
-}
-
-fn whole(x: u16) -> i32
-    ensures { result ≡ pos x }
-{
-    x as i32
 }
 
 // The samples at the columns c, c + 2, .. of the row that is loaded at entry at.
 pub fn samples(rows: &[u16; 98688], at: usize, c: usize, count: usize, dst: &mut [i32; 2064])
-    requires { (c ≤ 1) × (count ≤ 2048) × (at + 4112 ≤ 98688) × (length dst.old ≡ 2064) }
+    requires { (c ≤ 1) × (count ≤ 2048) × (at + 4112 ≤ 98688) }
     ensures { Entries (pos 0) 2064 4 (count + 4) (λ (x : ℕ). pos (get_or rows.now (at + (c + 2 * (x - 4) + 8)) 0))
         dst.new }
 {
-    let mut k = 0;
-    while k < count {
-        dst[k + 4] = whole(rows[at + (c + 2 * k + 8)]);
-        k += 1;
+    for k in 0..count {
+        dst[k + 4] = i32::from(rows[at + (c + 2 * k + 8)]);
     }
 }
 
@@ -112,7 +112,6 @@ pub fn direct_means(
     y: &mut [i32; 2064],
 )
     requires direct_reads { DirectReads p work.now n.now own.now other.now }
-    requires x_len { (length x.old ≡ 2064) × (length y.old ≡ 2064) }
     ensures entries { Entries (pos 0) 2064 4 (p.rest + 4) (λ (k : ℕ). own_mean p work.now n.now
         own.now (k - 4)) x.new }
     ensures entries_2 { Entries (pos 0) 2064 4 (p.rest + 4) (λ (k : ℕ). other_mean p work.now n.now
@@ -126,9 +125,14 @@ pub fn direct_means(
     let finals_north = above.finals;
     let others_south = below.others;
     let others_north = above.others;
-    let mut k = 0;
-    while k < rest {
-        let g = half_rows::four(work, p.east, p.south, n, k);
+    let gradients = SiteGradients {
+        work: work,
+        east: p.east,
+        south: p.south,
+        north: n,
+    };
+    for k in 0..rest {
+        let g = gradients.at(k);
         let west = k + 4 - start;
         let east = west + 1;
         x[k + 4] = direct_mean(
@@ -145,21 +149,17 @@ pub fn direct_means(
             work[finals_north + k],
             g,
         );
-        k += 1;
     }
 }
 
 // A colour at green sites: 4·G less its difference, which m holds, as an output.
 pub fn green_sites(z: &[i32; 2064], black: i32, m: &mut [i32; 2064], count: usize)
-    requires { (count ≤ 2048) × (length m.old ≡ 2064) × (Sized 4096 4 (count + 4) z.now) × (Sized 4096 4 (count + 4) m.old)
-        × (nat_abs black ≤ 255) }
+    requires { (count ≤ 2048) × (Sized 4096 4 (count + 4) z.now) × (Sized 4096 4 (count + 4) m.old) × (nat_abs black ≤ 255) }
     ensures { Entries (pos 0) 2064 4 (count + 4) (λ (x : ℕ). final_round (pos 4 *ℤ get_or z.now x (pos 0) -ℤ get_or
         m.old x (pos 0)) -ℤ black) m.new }
 {
-    let mut k = 4;
-    while k < count + 4 {
+    for k in 4..count + 4 {
         m[k] = site_values::output(4 * z[k] - m[k], black);
-        k += 1;
     }
 }
 
@@ -173,32 +173,28 @@ pub fn chroma_sites(
     y: &mut [i32; 2064],
     count: usize,
 )
-    requires count_bound { (count ≤ 2048) × (length g.old ≡ 2064) × (length y.old ≡ 2064) × (nat_abs black ≤ 255) }
+    requires count_bound { (count ≤ 2048) × (nat_abs black ≤ 255) }
     requires sized { (Sized 4096 4 (count + 4) own.now) × (Sized 4096 4 (count + 4) other.now) × (Sized 4096 4 (count + 4) z.now) }
     ensures entries { Entries (pos 0) 2064 4 (count + 4) (λ (x : ℕ). final_round (get_or own.now x (pos 0) +ℤ pos 4 *ℤ get_or
         z.now x (pos 0)) -ℤ black) g.new }
     ensures entries_2 { Entries (pos 0) 2064 4 (count + 4) (λ (x : ℕ). final_round (get_or own.now x (pos 0) +ℤ pos 4 *ℤ get_or
         z.now x (pos 0) -ℤ get_or other.now x (pos 0)) -ℤ black) y.new }
 {
-    let mut k = 4;
-    while k < count + 4 {
+    for k in 4..count + 4 {
         let q = own[k] + 4 * z[k];
         let o = other[k];
         g[k] = site_values::output(q, black);
         y[k] = site_values::output(q - o, black);
-        k += 1;
     }
 }
 
 // The measured colour at its sites: the samples, less the black level.
 pub fn measured(z: &mut [i32; 2064], black: i32, count: usize)
-    requires { (count ≤ 2048) × (length z.old ≡ 2064) × (Sized 4096 4 (count + 4) z.old) × (nat_abs black ≤ 255) }
+    requires { (count ≤ 2048) × (Sized 4096 4 (count + 4) z.old) × (nat_abs black ≤ 255) }
     ensures { Entries (pos 0) 2064 4 (count + 4) (λ (x : ℕ). get_or z.old x (pos 0) -ℤ black) z.new }
 {
-    let mut k = 4;
-    while k < count + 4 {
-        z[k] = z[k] - black;
-        k += 1;
+    for x in z[4..count + 4].iter_mut() {
+        *x -= black;
     }
 }
 
@@ -207,11 +203,9 @@ fn weave_row(even: &[i32; 2064], odd: &[i32; 2064], out: &mut [i32], at: usize, 
     requires { (2 ≤ w) × (w ≤ 4096) × (at + w ≤ length out.old) × (length out.old ≤ 67108864) }
     ensures { Wrote (pos 0) at w (woven 0 even.now odd.now) out.old out.new }
 {
-    let mut k = 0;
-    while k < w / 2 {
+    for k in 0..w / 2 {
         out[at + 2 * k] = even[k + 4];
         out[at + (2 * k + 1)] = odd[k + 4];
-        k += 1;
     }
     if w % 2 == 1 {
         out[at + (w - 1)] = even[w / 2 + 4];

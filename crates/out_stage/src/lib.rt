@@ -1,7 +1,7 @@
 // The last stage of the sweep: the three numbers of every site of a row, from its samples and both differences of the rows i and one off.
 #![tactic(auto)]
 
-ghost use Rattle.std.specs.Prelude.{◌≡◌, List, ℕ, ◌+◌, ◌*◌, ◌≤◌, pos, nat_abs, length};
+ghost use Rattle.std.specs.Prelude.{◌≡◌, List, ℕ, ◌+◌, ◌*◌, ◌≤◌, nat_abs, length};
 ghost use Rattle.frame.specs.Sites.{Colour, frame};
 ghost use Rattle.positions.specs.Taken.{SomeSamples};
 ghost use Rattle.records.specs.Stages.{OutReads};
@@ -9,78 +9,69 @@ ghost use Rattle.out_rows.specs.RowPlaces.{Placed};
 ghost use Rattle.out_stage.specs.OutRows.{DifferencesFormed, OutputsRead, OutputsFormed, RowStores, PlaneRow, OutLent, OutStores};
 
 use frame::Shape;
+use half_rows::Scratch;
 use out_rows::Places;
+use positions::Row;
 
-// Both differences of row i: own and other at its red and blue sites, x and y at its green sites.
-fn row_differences(
-    tops: &[i32],
-    work: &[i32],
-    shape: Shape,
-    i: usize,
-    base: usize,
-    p: Places,
-    n: &mut [i32; 2064],
-    own: &mut [i32; 2064],
-    other: &mut [i32; 2064],
-    x: &mut [i32; 2064],
-    y: &mut [i32; 2064],
-)
-    requires some_samples { SomeSamples (λ (zs : List ℕ). OutReads (frame shape zs) i base tops.now work.now) }
-    requires placed { Placed shape i p }
-    requires n_len { (length n.old ≡ 2064) × (length own.old ≡ 2064) × (length other.old ≡ 2064) × (length x.old ≡ 2064)
-        × (length y.old ≡ 2064) }
-    ensures differences_formed { DifferencesFormed shape i base tops.now work.now own.new other.new
-        x.new y.new }
-    ensures n_len_2 { length n.new ≡ 2064 }
+// The half rows of the stage stand in scratch: trials is for the green sites of a row, sums for its red and blue ones. In both, across is of
+// the colour that the row has beside green, vertical of the other of red and blue, and diagonal of green. So x, y and zg are trials.across,
+// vertical and diagonal; zx, xo and xg are sums.across, vertical and diagonal.
+
+// Both differences of a row: own and other at its red and blue sites, x and y at its green sites.
+fn row_differences(tops: &[i32], work: &[i32], row: Row, p: Places, scratch: &mut Scratch)
+    requires some_samples { SomeSamples (λ (zs : List ℕ). OutReads (frame row.shape zs) row.index row.base tops.now work.now) }
+    requires placed { Placed row.shape row.index p }
+    ensures differences_formed { DifferencesFormed row.shape row.index row.base tops.now work.now
+        scratch.new.own scratch.new.other scratch.new.trials.across scratch.new.trials.vertical }
 {
-    let w = shape.width;
+    let w = row.shape.width;
     let start = p.start;
     let count = p.count;
     let here = p.here;
+    let n = &mut scratch.north;
+    let own = &mut scratch.own;
+    let other = &mut scratch.other;
+    let x = &mut scratch.trials.across;
+    let y = &mut scratch.trials.vertical;
     half_rows::copy(work, here.finals, count, own);
     half_rows::copy(work, here.others, count, other);
     half_rows::mirror(own, w, start, 1);
     half_rows::mirror(other, w, start, 1);
-    half_rows::north(tops, work, w, i, base, count, p.rest, n);
+    half_rows::north(tops, work, row, count, p.rest, n);
     out_rows::direct_means(work, p, n, own, other, x, y);
 }
 
-// A black level as a signed number.
-fn signed(black: usize) -> i32
-    requires { black ≤ 255 }
-    ensures { result ≡ pos black }
-{
-    black as i32
-}
-
-// The outputs of row i, whose samples stand from entry at on: in zx, xg and xo at its red and blue sites, in zg, x and y at its green sites.
+// The outputs of row i, whose samples stand from entry at on.
 fn row_outputs(
-    rows: &[u16; 98688],
+    samples: &[u16; 98688],
     at: usize,
     shape: Shape,
     black: i32,
     i: usize,
     p: Places,
-    own: &[i32; 2064],
-    other: &[i32; 2064],
-    zx: &mut [i32; 2064],
-    zg: &mut [i32; 2064],
-    xg: &mut [i32; 2064],
-    xo: &mut [i32; 2064],
-    x: &mut [i32; 2064],
-    y: &mut [i32; 2064],
+    scratch: &mut Scratch,
 )
-    requires some_samples { SomeSamples (λ (zs : List ℕ). OutputsRead (frame shape zs) i at rows.now own.now other.now x.old y.old) }
+    requires some_samples { SomeSamples (λ (zs : List ℕ). OutputsRead (frame shape zs) i at samples.now
+        scratch.old.own scratch.old.other scratch.old.trials.across scratch.old.trials.vertical) }
     requires placed { (Placed shape i p) × (at + 4112 ≤ 98688) × (nat_abs black ≤ 255) }
-    requires zx_len { (length zx.old ≡ 2064) × (length zg.old ≡ 2064) × (length xg.old ≡ 2064) × (length xo.old ≡ 2064) }
-    ensures { OutputsFormed shape black i at rows.now own.now other.now x.old
-        y.old zx.new zg.new xg.new xo.new x.new y.new }
+    ensures { OutputsFormed shape black i at samples.now
+        scratch.old.own scratch.old.other scratch.old.trials.across scratch.old.trials.vertical
+        scratch.new.sums.across scratch.new.trials.diagonal scratch.new.sums.diagonal
+        scratch.new.sums.vertical scratch.new.trials.across scratch.new.trials.vertical }
 {
     let start = p.start;
     let count = p.count;
     let rest = p.rest;
-    out_rows::samples(rows, at, start, count, zx);
-    out_rows::samples(rows, at, 1 - start, rest, zg);
+    let own = &scratch.own;
+    let other = &scratch.other;
+    let x = &mut scratch.trials.across;
+    let y = &mut scratch.trials.vertical;
+    let zg = &mut scratch.trials.diagonal;
+    let zx = &mut scratch.sums.across;
+    let xo = &mut scratch.sums.vertical;
+    let xg = &mut scratch.sums.diagonal;
+    out_rows::samples(samples, at, start, count, zx);
+    out_rows::samples(samples, at, 1 - start, rest, zg);
     out_rows::chroma_sites(own, other, zx, black, xg, xo, count);
     out_rows::green_sites(zg, black, x, rest);
     out_rows::green_sites(zg, black, y, rest);
@@ -94,26 +85,30 @@ fn store_outputs(
     shape: Shape,
     i: usize,
     start: usize,
-    zx: &[i32; 2064],
-    zg: &[i32; 2064],
-    xg: &[i32; 2064],
-    xo: &[i32; 2064],
-    x: &[i32; 2064],
-    y: &[i32; 2064],
+    scratch: &Scratch,
     red: &mut [i32],
     green: &mut [i32],
     blue: &mut [i32],
 )
     requires { RowStores shape i start red.old green.old blue.old }
-    ensures plane_row { PlaneRow shape i Colour.red zx.now zg.now xg.now xo.now
-        x.now y.now red.old red.new }
-    ensures plane_row_2 { PlaneRow shape i Colour.green zx.now zg.now xg.now xo.now
-        x.now y.now green.old green.new }
-    ensures plane_row_3 { PlaneRow shape i Colour.blue zx.now zg.now xg.now xo.now
-        x.now y.now blue.old blue.new }
+    ensures plane_row { PlaneRow shape i Colour.red
+        scratch.now.sums.across scratch.now.trials.diagonal scratch.now.sums.diagonal
+        scratch.now.sums.vertical scratch.now.trials.across scratch.now.trials.vertical red.old red.new }
+    ensures plane_row_2 { PlaneRow shape i Colour.green
+        scratch.now.sums.across scratch.now.trials.diagonal scratch.now.sums.diagonal
+        scratch.now.sums.vertical scratch.now.trials.across scratch.now.trials.vertical green.old green.new }
+    ensures plane_row_3 { PlaneRow shape i Colour.blue
+        scratch.now.sums.across scratch.now.trials.diagonal scratch.now.sums.diagonal
+        scratch.now.sums.vertical scratch.now.trials.across scratch.now.trials.vertical blue.old blue.new }
 {
     let w = shape.width;
     let at = i * w;
+    let x = &scratch.trials.across;
+    let y = &scratch.trials.vertical;
+    let zg = &scratch.trials.diagonal;
+    let zx = &scratch.sums.across;
+    let xo = &scratch.sums.vertical;
+    let xg = &scratch.sums.diagonal;
     out_rows::weave(xg, zg, green, at, start, w);
     if (i + shape.phase / 2) % 2 == 0 {
         out_rows::weave(zx, x, red, at, start, w);
@@ -124,47 +119,33 @@ fn store_outputs(
     }
 }
 
-// Row i of the three planes.
+// A row of the three planes.
 pub fn out_line(
-    rows: &[u16; 98688],
+    samples: &[u16; 98688],
     tops: &[i32],
-    shape: Shape,
+    row: Row,
     black: usize,
     work: &[i32],
-    i: usize,
-    base: usize,
-    n: &mut [i32; 2064],
-    own: &mut [i32; 2064],
-    other: &mut [i32; 2064],
-    zx: &mut [i32; 2064],
-    zg: &mut [i32; 2064],
-    xg: &mut [i32; 2064],
-    xo: &mut [i32; 2064],
-    x: &mut [i32; 2064],
-    y: &mut [i32; 2064],
+    scratch: &mut Scratch,
     red: &mut [i32],
     green: &mut [i32],
     blue: &mut [i32],
 )
-    requires some_samples { SomeSamples (λ (zs : List ℕ). OutLent (frame shape zs) i base rows.now tops.now work.now) }
-    requires red_len { (length red.old ≡ shape.height * shape.width) × (length green.old ≡ shape.height * shape.width)
-        × (length blue.old ≡ shape.height * shape.width) × (black ≤ 255) }
-    requires n_len { (length n.old ≡ 2064) × (length own.old ≡ 2064) × (length other.old ≡ 2064) × (length zx.old ≡ 2064)
-        × (length zg.old ≡ 2064) × (length xg.old ≡ 2064) × (length xo.old ≡ 2064) × (length x.old ≡ 2064) × (length y.old ≡ 2064) }
-    ensures out_stores { OutStores shape black i base Colour.red rows.now tops.now work.now
+    requires some_samples { SomeSamples (λ (zs : List ℕ). OutLent (frame row.shape zs) row.index row.base samples.now tops.now work.now) }
+    requires red_len { (length red.old ≡ row.shape.height * row.shape.width) × (length green.old ≡ row.shape.height * row.shape.width)
+        × (length blue.old ≡ row.shape.height * row.shape.width) × (black ≤ 255) }
+    ensures out_stores { OutStores row.shape black row.index row.base Colour.red samples.now tops.now work.now
         red.old red.new }
-    ensures out_stores_2 { OutStores shape black i base Colour.green rows.now tops.now work.now
+    ensures out_stores_2 { OutStores row.shape black row.index row.base Colour.green samples.now tops.now work.now
         green.old green.new }
-    ensures out_stores_3 { OutStores shape black i base Colour.blue rows.now tops.now work.now
+    ensures out_stores_3 { OutStores row.shape black row.index row.base Colour.blue samples.now tops.now work.now
         blue.old blue.new }
-    ensures n_len_2 { (length n.new ≡ 2064) × (length own.new ≡ 2064) × (length other.new ≡ 2064)
-        × (length zx.new ≡ 2064) × (length zg.new ≡ 2064) × (length xg.new ≡ 2064)
-        × (length xo.new ≡ 2064) × (length x.new ≡ 2064) × (length y.new ≡ 2064) }
 {
-    let p = out_rows::row_places(shape, i, base);
-    let at = mosaic_rows::row_at(i, base);
-    let b = signed(black);
-    row_differences(tops, work, shape, i, base, p, n, own, other, x, y);
-    row_outputs(rows, at, shape, b, i, p, own, other, zx, zg, xg, xo, x, y);
-    store_outputs(shape, i, p.start, zx, zg, xg, xo, x, y, red, green, blue);
+    let shape = row.shape;
+    let i = row.index;
+    let p = out_rows::row_places(row);
+    let at = mosaic_rows::row_at(i, row.base);
+    row_differences(tops, work, row, p, scratch);
+    row_outputs(samples, at, shape, black as i32, i, p, scratch);
+    store_outputs(shape, i, p.start, scratch, red, green, blue);
 }

@@ -13,14 +13,12 @@ fn low_bits(a: u16, b: u16, c: u16, d: u16) -> u8
 }
 
 // Four samples in five bytes: four of high eight bits, then one of low bits.
+#[tactic(auto, unfolding(frame_file::specs::FrameFile::packed))]
 pub fn pack(samples: [u16; 4]) -> [u8; 5]
     requires { Below 1024 samples }
     ensures { result ≡ packed samples }
 {
-    let a = samples[0];
-    let b = samples[1];
-    let c = samples[2];
-    let d = samples[3];
+    let [a, b, c, d] = samples;
     [
         (a >> 2) as u8,
         (b >> 2) as u8,
@@ -34,23 +32,25 @@ pub fn pack(samples: [u16; 4]) -> [u8; 5]
 fn join_bits(high: u8, low: u8) -> u16
     ensures { result ≡ 4 * high + low % 4 }
 {
-    ((high as u16) << 2) | ((low & 3) as u16)
+    (u16::from(high) << 2) | u16::from(low & 3)
 }
 
 // The four samples of five bytes.
+#[tactic(auto, unfolding(frame_file::specs::FrameFile::unpacked))]
 pub fn unpack(bytes: [u8; 5]) -> [u16; 4]
     ensures { result ≡ unpacked bytes }
 {
-    let low = bytes[4];
+    let [a, b, c, d, low] = bytes;
     [
-        join_bits(bytes[0], low),
-        join_bits(bytes[1], low >> 2),
-        join_bits(bytes[2], low >> 4),
-        join_bits(bytes[3], low >> 6),
+        join_bits(a, low),
+        join_bits(b, low >> 2),
+        join_bits(c, low >> 4),
+        join_bits(d, low >> 6),
     ]
 }
 
 // Copies bytes into a slice, from position `at` on.
+#[tactic(auto, unfolding(frame_file::specs::Lists::put_at))]
 pub fn store_bytes(to: &mut [u8], at: usize, source: &[u8])
     requires { at + length source.now ≤ length to.old }
     ensures { to.new ≡ put_at to.old at source.now }

@@ -13,6 +13,7 @@ fn read_full(input: &mut impl Read, file: &mut [u8]) -> io::Result<usize>
     ensures { ReadsAtMost result file.new }
 {
     let mut length = 0;
+    // std has no method that reads until the buffer is full or the input ends: `read_exact` fails on less, `read_to_end` needs a heap.
     while length < file.len() {
         let count = input.read(&mut file[length..])?;
         if count == 0 {
@@ -26,7 +27,5 @@ fn read_full(input: &mut impl Read, file: &mut [u8]) -> io::Result<usize>
 fn main(rt: HostRuntime) -> io::Result<()> {
     let mut file = [0u8; 2049];
     let length = read_full(&mut rt.stdin(), &mut file)?;
-    let mut text = [0u8; 25623];
-    let end = frame_text::compose(&file[..length], &mut text);
-    rt.write_all(&text[..end])
+    rt.write_all(frame_text::compose(&file[..length]).as_str().as_bytes())
 }

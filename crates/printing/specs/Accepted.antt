@@ -3,9 +3,8 @@
 use Rattle.std.specs.Prelude.{◌≡◌, List, ℕ, ◌≤◌, length}
 use Rattle.std.proofs.Common.{arith}
 use Rattle.toolkit.specs.Tests.{ltb_no}
-use Rattle.frame.specs.declared.Answer.TheVariants.{Done}
 use Rattle.frame.specs.Sites.{Frame}
-use Rattle.frame.specs.Calls.{Admitted, develop_answer}
+use Rattle.frame.specs.Calls.{Admitted, develop_answer, no_refusal}
 use Rattle.frame.proofs.Admission.{least_allowed, admitted_done, admitted_at_zero}
 use Rattle.frame_file.specs.Lists.{Below}
 use Rattle.frame_file.specs.FrameFile.{block_count, file_length, reading, accepted}
@@ -13,7 +12,7 @@ use Rattle.frame_file.proofs.WrittenFile.{length_written_file}
 use Rattle.frame_file.proofs.AcceptedExactlyWhenWritten.{WrittenFrom, accepted_is_written}
 use Rattle.printing.specs.Printing.{black_level, lent, frame_text, printed}
 
-pub admitted_developed : (f : Frame) → Admitted f → develop_answer f black_level (lent f) ≡ Done
+pub admitted_developed : (f : Frame) → Admitted f → develop_answer f black_level (lent f) ≡ no_refusal
 admitted_developed f a = admitted_done f black_level (lent f) (least_allowed f) (admitted_at_zero f a)
 
 -- its file is at most 2,048 bytes long: block 0 and three of samples

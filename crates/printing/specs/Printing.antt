@@ -1,11 +1,10 @@
 -- Document 01, "The frame file", its last paragraph: what the program prints. Definitions alone. Assumes nothing.
-use Rattle.std.specs.Prelude.{cond, List, [], ◌∷◌, ◌++◌, ℕ, zero, suc, ◌+◌, ◌*◌, ◌/◌, ◌%◌, ltb, pos, nat_abs, length, get_or}
+use Rattle.std.specs.Prelude.{cond, List, [], ◌∷◌, ◌++◌, ℕ, zero, suc, ◌+◌, ◌*◌, ◌/◌, ◌%◌, ltb, pos, nat_abs, length, get_or, Err, Ok}
 use Rattle.frame.specs.declared.Refusal.{Refusal}
 use Rattle.frame.specs.declared.Refusal.TheVariants.{BufferLength}
-use Rattle.frame.specs.declared.Answer.{Answer}
-use Rattle.frame.specs.declared.Answer.TheVariants.{Done, Refused}
 use Rattle.frame.specs.Sites.{Frame, Colour, red, green, blue}
-use Rattle.frame.specs.Calls.{Lengths, least_lengths, number_and_place, clamped, develop_answer}
+use Rattle.frame.specs.Calls.{least_lengths, number_and_place, clamped, develop_answer, Answer}
+use Rattle.frame.specs.declared.Lengths.{Lengths}
 use Rattle.method.specs.Planes.{plane}
 use Rattle.frame_file.specs.Lists.{joined}
 use Rattle.frame_file.specs.FrameFile as File
@@ -69,8 +68,8 @@ lent f = least_lengths f
 
 -- what is printed by develop's answer
 abbrev pub text_of_developed : Frame → Answer → List ℕ
-text_of_developed f Done = frame_text f
-text_of_developed f (Refused why) = refusal_text why
+text_of_developed f (Ok _) = frame_text f
+text_of_developed f (Err why) = refusal_text why
 
 -- what is printed by what read finds
 abbrev pub text_of : File.Reading → List ℕ

@@ -1,37 +1,38 @@
 -- What the reader's tests answer at each of their returns. Assumes nothing.
-use mathlib.Core.Path.{◌≡◌, sym, ◌∙◌, ap}
+use Rattle.std.specs.Prelude.{Err}
+use mathlib.Core.Path.{◌≡◌, refl, sym, ◌∙◌, ap}
 use mathlib.Core.Bool.{Bool, true, false}
-use mathlib.Core.List.{List}
+use mathlib.Core.List.{List, [], ◌∷◌}
 use Prim.Native.Nat.{ℕ, suc, ◌+◌, ◌*◌, ◌-◌, ◌%◌, ◌≤◌, ◌<◌}
 use native.Mathlib.Numerals.{add-one}
 use native.Mathlib.Omega.{arith}
-use lib.ListN.{length, get_or, take, drop}
+use lib.ListN.{length, take, drop}
+use lib.Dec.{eqb}
+use Rattle.std.specs.List.{list_all}
 use borrow.Author.Tests.{ne_eqb}
 use Rattle.toolkit.specs.Tests.{leb_yes, leb_no, eqb_yes}
 use Rattle.frame.specs.declared.Shape.{Shape}
 use Rattle.frame.specs.declared.Refusal.{Refusal}
 use Rattle.frame.specs.declared.Refusal.TheVariants.{FileLength, Header, Filler}
-use Rattle.frame.specs.declared.Answer.{Answer}
-use Rattle.frame.specs.declared.Answer.TheVariants.{Done, Refused}
-use Rattle.frame.specs.Calls.{and_then}
+use Rattle.frame.specs.Calls.{and_then, Answer, no_refusal}
 use Rattle.admission.specs.ShapeTest.{shape_allowed}
 use Rattle.block.specs.BlockTest.{block_answer}
-use Rattle.frame_file.specs.Lists.{slice_part, part_part, all_zero, all_zero_drop}
+use Rattle.frame_file.specs.Lists.{slice_part, part_part, all_zero}
 use Rattle.frame_file.specs.FrameFile.{block, block_filler, has_tag, header, header_filler, payload, unpacked_payload, length_allowed, header_allowed, filler_holds}
+use Rattle.frame_file.proofs.BlockCount.{some_blocks, block_starts}
 use Rattle.reader.specs.ReadSteps.{header_answer, first_answer, later_answer, later_answers}
 
 -- ---- zero bytes
 
-pub zero_on : (l : List ℕ) (k : ℕ) → k < length l → get_or l k 0 ≡ 0 → all_zero (drop k l) ≡ all_zero (drop (k + 1) l)
-zero_on l k h e = all_zero_drop l k h ∙ rw (eqb_yes e)
-
-pub zero_stop : (l : List ℕ) (k : ℕ) → k < length l → ¬ (get_or l k 0 ≡ 0) → all_zero (drop k l) ≡ false
-zero_stop l k h e = all_zero_drop l k h ∙ rw (ne_eqb (get_or l k 0) 0 e)
+pub each_zero : (l : List ℕ) → list_all (λ z. eqb z 0) l ≡ all_zero l
+unfolding all_zero
+each_zero [] = refl
+each_zero (z ∷ l) = rw (each_zero l)
 
 -- ---- block 0
 
 module _ (b : List ℕ) {t : Bool} (et : t ≡ has_tag b) where
-  pub tag_refused : t ≡ false → Refused Header ≡ header_answer b
+  pub tag_refused : t ≡ false → Err Header ≡ header_answer b
   unfolding header_answer header_allowed
   tag_refused h = rw (sym et ∙ h)
 
@@ -40,37 +41,37 @@ module _ (b : List ℕ) {t : Bool} (et : t ≡ has_tag b) where
     unfolding header_allowed shape_allowed
     allowed_is = rw (sym et ∙ ht) (sym (e ∙ ap shape_allowed es))
 
-    pub shape_refused : s ≡ false → Refused Header ≡ header_answer b
+    pub shape_refused : s ≡ false → Err Header ≡ header_answer b
     unfolding header_answer
     shape_refused h = rw (allowed_is ∙ h)
 
     module _ (hs : s ≡ true) {z : Bool} (ez : z ≡ all_zero (header_filler b)) where
-      pub filler_refused : z ≡ false → Refused (Filler 0) ≡ header_answer b
+      pub filler_refused : z ≡ false → Err (Filler 0) ≡ header_answer b
       unfolding header_answer
       filler_refused h = rw (allowed_is ∙ hs, sym ez ∙ h)
 
-      pub header_done : z ≡ true → Done ≡ header_answer b
+      pub header_done : z ≡ true → no_refusal ≡ header_answer b
       unfolding header_answer
       header_done h = rw (allowed_is ∙ hs, sym ez ∙ h)
 
 -- ---- the length, and block 0
 
 module _ (file : List ℕ) where
-  pub short : length file < 512 → Refused FileLength ≡ first_answer file
+  pub short : length file < 512 → Err FileLength ≡ first_answer file
   unfolding first_answer length_allowed
   short h = rw (leb_no h)
 
   module _ (long : 512 ≤ length file) where
-    pub uneven : ¬ (length file % 512 ≡ 0) → Refused FileLength ≡ first_answer file
+    pub uneven : ¬ (length file % 512 ≡ 0) → Err FileLength ≡ first_answer file
     unfolding first_answer length_allowed
     uneven h = rw (leb_yes long, ne_eqb (length file % 512) 0 h)
 
     module _ (even : length file % 512 ≡ 0) where
-      pub block_refused : (why : Refusal) → block_answer (block file 0) 0 ≡ Refused why → Refused why ≡ first_answer file
+      pub block_refused : (why : Refusal) → block_answer (block file 0) 0 ≡ Err why → Err why ≡ first_answer file
       unfolding first_answer length_allowed
       block_refused why e = rw (leb_yes long, eqb_yes even, e)
 
-      pub header_next : (answer : Answer) → block_answer (block file 0) 0 ≡ Done → answer ≡ header_answer (block file 0)
+      pub header_next : (answer : Answer) → block_answer (block file 0) 0 ≡ no_refusal → answer ≡ header_answer (block file 0)
           → answer ≡ first_answer file
       unfolding first_answer length_allowed
       header_next answer d e = rw (leb_yes long, eqb_yes even, d) e
@@ -93,15 +94,15 @@ module _ (file : List ℕ) (m n : ℕ) {answer : Answer}
   answer_is : block_answer (block file n) n ≡ answer
   answer_is = sym (ea ∙ ap (λ (b : List ℕ). block_answer b n) (block_slice file n))
 
-  pub later_refused : (why : Refusal) → answer ≡ Refused why → Refused why ≡ later_answer file m n
+  pub later_refused : (why : Refusal) → answer ≡ Err why → Err why ≡ later_answer file m n
   unfolding later_answer
   later_refused why e = rw (answer_is ∙ e)
 
-  module _ (done : answer ≡ Done) {z : Bool} (ez : z ≡ all_zero (take (512 * n + 508 - (512 * n + 504)) (drop (512 * n + 504) file))) where
+  module _ (done : answer ≡ no_refusal) {z : Bool} (ez : z ≡ all_zero (take (512 * n + 508 - (512 * n + 504)) (drop (512 * n + 504) file))) where
     bytes_are : all_zero (block_filler (block file n)) ≡ z
     bytes_are = sym (ez ∙ ap all_zero (filler_slice file n))
 
-    pub bytes_refused : z ≡ false → Refused (Filler n) ≡ later_answer file m n
+    pub bytes_refused : z ≡ false → Err (Filler n) ≡ later_answer file m n
     unfolding later_answer filler_holds
     bytes_refused h = rw (answer_is ∙ done, bytes_are ∙ h)
 
@@ -110,11 +111,11 @@ module _ (file : List ℕ) (m n : ℕ) {answer : Answer}
       samples_are : all_zero (drop (m - 400 * (n - 1)) (unpacked_payload (payload file n))) ≡ y
       samples_are = sym (ey ∙ ap (λ (l : List ℕ). all_zero (drop (m - 400 * (n - 1)) (unpacked_payload l))) ep)
 
-      pub samples_refused : y ≡ false → Refused (Filler n) ≡ later_answer file m n
+      pub samples_refused : y ≡ false → Err (Filler n) ≡ later_answer file m n
       unfolding later_answer filler_holds
       samples_refused h = rw (answer_is ∙ done, bytes_are ∙ hz, samples_are ∙ h)
 
-      pub later_done : y ≡ true → Done ≡ later_answer file m n
+      pub later_done : y ≡ true → no_refusal ≡ later_answer file m n
       unfolding later_answer filler_holds
       later_done h = rw (answer_is ∙ done, bytes_are ∙ hz, samples_are ∙ h)
 
@@ -125,12 +126,22 @@ module _ (file : List ℕ) (m n count : ℕ) (h : n < count) where
   unfolding later_answers
   later_step = let left : count - n ≡ suc (count - (n + 1)) = omega arith in rw (left, add-one)
 
-  pub later_on : later_answer file m n ≡ Done → later_answers file m n (count - n) ≡ later_answers file m (n + 1) (count - (n + 1))
+  pub later_on : later_answer file m n ≡ no_refusal → later_answers file m n (count - n) ≡ later_answers file m (n + 1) (count - (n + 1))
   later_on e = later_step ∙ rw e
 
-  pub later_stop : (why : Refusal) → later_answer file m n ≡ Refused why → later_answers file m n (count - n) ≡ Refused why
+  pub later_stop : (why : Refusal) → later_answer file m n ≡ Err why → later_answers file m n (count - n) ≡ Err why
   later_stop why e = later_step ∙ rw e
 
-pub later_end : (file : List ℕ) (m n count : ℕ) → n ≡ count → later_answers file m n (count - n) ≡ Done
+pub later_end : (file : List ℕ) (m n count : ℕ) → n ≡ count → later_answers file m n (count - n) ≡ no_refusal
 unfolding later_answers
 later_end file m n count h = let none : count - n ≡ 0 = omega arith in rw none
+
+-- ---- the laws that the proof of each function uses
+
+pub ruleset header_laws = (tag_refused, shape_refused, header_done)
+
+pub ruleset first_laws = (short, uneven, header_next)
+
+pub ruleset later_laws = (bytes_refused, samples_refused, later_done)
+
+pub ruleset blocks_laws = (later_on, later_end, some_blocks, block_starts)

@@ -2,37 +2,38 @@
 #![tactic(auto)]
 
 ghost use Rattle.std.specs.Prelude.{◌≡◌, ◌+◌, ◌*◌, ◌≤◌};
-ghost use Rattle.positions.specs.Rings.{place_in_ring, Round};
+ghost use Rattle.positions.specs.Rings.{place_in_ring};
 ghost use Rattle.records.specs.Layout.{record_size, south_part, final_part, other_part};
 
-// The record of row i.
-pub fn record_at(w: usize, i: usize, base: usize) -> usize
-    requires { (w ≤ 4096) × (i ≤ 4096) × (Round base i i) }
-    ensures { (result ≡ place_in_ring i * record_size w) × (result ≤ 393216) }
+use positions::Row;
+
+// The record of a row.
+#[tactic(auto, using(positions::specs::RingLaws::ring_small))]
+pub fn record_at(row: Row) -> usize
+    ensures { (result ≡ place_in_ring row.index * record_size row.shape.width) × (result ≤ 393216) }
 {
-    positions::ring_place(i, base) * (4 * w)
+    positions::ring_place(row.index, row.base) * (4 * row.shape.width)
 }
 
+// Its parts, each by a name of its own: they start by different formulas, so one function for all would only choose among them.
 // Its S.
-pub fn south_at(w: usize, i: usize, base: usize) -> usize
-    requires { (w ≤ 4096) × (i ≤ 4096) × (Round base i i) }
-    ensures { result ≡ place_in_ring i * record_size w + south_part w }
+pub fn south_at(row: Row) -> usize
+    ensures { result ≡ place_in_ring row.index * record_size row.shape.width + south_part row.shape.width }
 {
-    record_at(w, i, base) + (w + 2)
+    record_at(row) + (row.shape.width + 2)
 }
 
 // Its final differences.
-pub fn final_at(w: usize, i: usize, base: usize) -> usize
-    requires { (w ≤ 4096) × (i ≤ 4096) × (Round base i i) }
-    ensures { result ≡ place_in_ring i * record_size w + final_part w }
+pub fn final_at(row: Row) -> usize
+    ensures { result ≡ place_in_ring row.index * record_size row.shape.width + final_part row.shape.width }
 {
-    record_at(w, i, base) + (2 * w + 2)
+    record_at(row) + (2 * row.shape.width + 2)
 }
 
 // Its differences of the other colour.
-pub fn other_at(w: usize, i: usize, base: usize) -> usize
-    requires { (w ≤ 4096) × (i ≤ 4096) × (Round base i i) }
-    ensures { result ≡ place_in_ring i * record_size w + other_part w }
+pub fn other_at(row: Row) -> usize
+    ensures { result ≡ place_in_ring row.index * record_size row.shape.width + other_part row.shape.width }
 {
-    record_at(w, i, base) + (2 * w + 2 + (w + 1) / 2)
+    let w = row.shape.width;
+    record_at(row) + (2 * w + 2 + (w + 1) / 2)
 }

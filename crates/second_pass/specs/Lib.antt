@@ -1,4 +1,5 @@
 pub mod Picked
+pub mod Choices
 pub mod Across
 pub mod Forming
 pub mod Resolving

@@ -13,17 +13,16 @@ ghost use Rattle.sums.specs.Sums.{SumsRoom};
 ghost use Rattle.second_pass.specs.Picked.{picked, picked_entry, code_entry, map_entry, across_entry, RowsFormed};
 
 use frame::Shape;
+use half_rows::{Scratch, ThreeWays};
 
 // r_H, of which r_D is the mean with r_V.
 fn across_row(rd: &[i32; 2064], rv: &[i32; 2064], rh: &mut [i32; 2064], count: usize)
-    requires count_bound { (count ≤ 2048) × (length rh.old ≡ 2064) }
+    requires count_bound { count ≤ 2048 }
     requires sized { (Sized 32760 4 (count + 4) rd.now) × (Sized 32760 4 (count + 4) rv.now) }
     ensures { Entries (pos 0) 2064 4 (count + 4) (across_entry rd.now rv.now) rh.new }
 {
-    let mut k = 0;
-    while k < count {
+    for k in 0..count {
         rh[k + 4] = 2 * rd[k + 4] - rv[k + 4];
-        k += 1;
     }
 }
 
@@ -35,46 +34,75 @@ fn trial_rows(
     i: usize,
     c: usize,
     count: usize,
-    rh: &mut [i32; 2064],
-    rv: &mut [i32; 2064],
-    rd: &mut [i32; 2064],
+    trials: &mut ThreeWays,
 )
     requires some_samples { SomeSamples (λ (zs : List ℕ). SecondReads (frame shape zs) i diagonals.now verticals.now) }
     requires c_value { (c ≡ chroma_start shape.phase i) × (c ≤ 1) × (count ≡ half_count shape.width c) × (count ≤ 2048) }
-    requires rh_len { (length rh.old ≡ 2064) × (length rv.old ≡ 2064) × (length rd.old ≡ 2064) }
-    ensures { RowsFormed shape i diagonals.now verticals.now rh.new rv.new rd.new }
+    ensures { RowsFormed shape i diagonals.now verticals.now trials.new.across
+        trials.new.vertical trials.new.diagonal }
 {
     let w = shape.width;
     let at = i * w;
-    half_rows::copy(diagonals, at, count, rd);
-    half_rows::copy(verticals, at, count, rv);
-    across_row(rd, rv, rh, count);
-    half_rows::mirror(rh, w, c, 4);
-    half_rows::mirror(rd, w, c, 4);
+    half_rows::copy(diagonals, at, count, &mut trials.diagonal);
+    half_rows::copy(verticals, at, count, &mut trials.vertical);
+    across_row(
+        &trials.diagonal,
+        &trials.vertical,
+        &mut trials.across,
+        count,
+    );
+    half_rows::mirror(&mut trials.across, w, c, 4);
+    half_rows::mirror(&mut trials.diagonal, w, c, 4);
 }
 
-// How the least of the three sums resolves a weak site: 4 across, 5 down, 6 to the mean. The first two only if they are below both others.
-fn resolution(fh: i32, fv: i32, fd: i32) -> u8
-    ensures { result ≡ picked fh fv fd 4 5 6 }
+// How the least of the three sums resolves a weak site, with the code in the map.
+#[derive(Clone, Copy)]
+enum Choice {
+    Across = 4,
+    Down = 5,
+    ToMean = 6,
+}
+
+// Across or down only if its sum is below both others.
+#[tactic(auto, unfolding(crate::specs::Picked::picked))]
+fn resolution(fh: i32, fv: i32, fd: i32) -> Choice
+    ensures { result ≡ picked fh fv fd Choice.Across Choice.Down Choice.ToMean }
 {
     if fh < fv && fh < fd {
-        return 4;
+        Choice::Across
+    } else if fv < fh && fv < fd {
+        Choice::Down
+    } else {
+        Choice::ToMean
     }
-    if fv < fh && fv < fd {
-        return 5;
-    }
-    6
 }
 
-// x, y or z, by a resolution. Here and in `resolve` the values are formed before the choice, so that a row is resolved side by side.
-fn taken(second: u8, x: i32, y: i32, z: i32) -> i32
-    ensures { result ≡ cond (ltb second 6) (cond (ltb second 5) x y) z }
-{
-    let straight = if second < 5 { x } else { y };
-    if second < 6 { straight } else { z }
+impl Choice {
+    ghost use Rattle.second_pass.specs.Choices.{one_of};
+
+    fn code(self) -> u8
+        ensures { result ≡ one_of self 4 5 6 }
+    {
+        self as u8
+    }
+
+    // x, y or z. Two choices of two, so that a row is resolved side by side: a match of three takes more than twice as long.
+    fn taken(self, x: i32, y: i32, z: i32) -> i32
+        ensures { result ≡ one_of self x y z }
+    {
+        let straight = match self {
+            Choice::Across => x,
+            _ => y,
+        };
+        match self {
+            Choice::ToMean => z,
+            _ => straight,
+        }
+    }
 }
 
-// The code of a site: that of the first pass, and where it left the site weak the second's.
+// The code of a site: that of the first pass, and where it left the site weak the second's. Formed before the choice, as in `taken`.
+// Codes are numbers, since they are entries of the map, which C reads.
 fn resolve(first: u8, second: u8) -> u8
     ensures { result ≡ cond (ltb first 4) first second }
 {
@@ -92,21 +120,17 @@ pub struct Picked {
 fn pick(first: u8, fh: i32, fv: i32, fd: i32, x: i32, y: i32, z: i32) -> Picked
     ensures { (result.difference ≡ picked fh fv fd x y z) × (result.code ≡ cond (ltb first 4) first (picked fh fv fd 4 5 6)) }
 {
-    let second = resolution(fh, fv, fd);
+    let choice = resolution(fh, fv, fd);
     Picked {
-        difference: taken(second, x, y, z),
-        code: resolve(first, second),
+        difference: choice.taken(x, y, z),
+        code: resolve(first, choice.code()),
     }
 }
 
 // D of a row, stored from at on, and its codes, from those that the first pass left in the map from at on.
 fn second_row(
-    rh: &[i32; 2064],
-    rv: &[i32; 2064],
-    rd: &[i32; 2064],
-    fh: &[i32; 2064],
-    fv: &[i32; 2064],
-    fd: &[i32; 2064],
+    trials: &ThreeWays,
+    sums: &ThreeWays,
     map: &[u8],
     out: &mut [i32],
     codes: &mut [u8; 2048],
@@ -114,28 +138,25 @@ fn second_row(
     count: usize,
 )
     requires count_bound { (count ≤ 2048) × (at + count ≤ length out.old) × (length out.old ≤ 67108864)
-        × (SumsRoom 524160 count fh.now fv.now fd.now) }
-    requires map_len { (length map.now ≡ length out.old) × (length codes.old ≡ 2048) }
-    ensures wrote { Wrote (pos 0) at count (λ (k : ℕ). picked_entry rh.now rv.now rd.now
-        fh.now fv.now fd.now (k + 4)) out.old out.new }
-    ensures entries { Entries 0 2048 0 count (code_entry fh.now fv.now fd.now at map.now)
+        × (SumsRoom 524160 count sums.now.across sums.now.vertical sums.now.diagonal) }
+    requires map_len { length map.now ≡ length out.old }
+    ensures wrote { Wrote (pos 0) at count (λ (k : ℕ). picked_entry trials.now.across trials.now.vertical trials.now.diagonal
+        sums.now.across sums.now.vertical sums.now.diagonal (k + 4)) out.old out.new }
+    ensures entries { Entries 0 2048 0 count (code_entry sums.now.across sums.now.vertical sums.now.diagonal at map.now)
         codes.new }
 {
-    let mut k = 0;
-    while k < count {
+    for k in 0..count {
         let picked = pick(
             map[at + k],
-            2 * fh[k + 4],
-            2 * fv[k + 4],
-            fd[k + 4],
-            rh[k + 4],
-            rv[k + 4],
-            rd[k + 4],
+            2 * sums.across[k + 4],
+            2 * sums.vertical[k + 4],
+            sums.diagonal[k + 4],
+            trials.across[k + 4],
+            trials.vertical[k + 4],
+            trials.diagonal[k + 4],
         );
-        let difference = picked.difference;
-        out[at + k] = difference;
+        out[at + k] = picked.difference;
         codes[k] = picked.code;
-        k += 1;
     }
 }
 
@@ -146,17 +167,16 @@ fn column_code(code: u8, parity: usize, c: usize) -> u8
     if parity == c { code } else { 0 }
 }
 
-// A row of the map, from entry at on: the codes at the columns c, c + 2, .. and 0 at the others.
+// A row of the map, from entry at on: the codes at the columns c, c + 2, .. and 0 at the others. Not by `weave` of out_rows, which joins two
+// half rows with room on both sides: here there is one, with none.
 fn map_row(codes: &[u8; 2048], map: &mut [u8], at: usize, c: usize, w: usize)
     requires { (c ≤ 1) × (2 ≤ w) × (w ≤ 4096) × (at + w ≤ length map.old) × (length map.old ≤ 16777216) }
     ensures { Wrote 0 at w (map_entry c codes.now) map.old map.new }
 {
-    let mut k = 0;
-    while k < w / 2 {
+    for k in 0..w / 2 {
         let code = codes[k];
         map[at + 2 * k] = column_code(code, 0, c);
         map[at + (2 * k + 1)] = column_code(code, 1, c);
-        k += 1;
     }
     if w % 2 == 1 {
         map[at + (w - 1)] = column_code(codes[w / 2], 0, c);
@@ -169,33 +189,23 @@ pub fn second_line(
     verticals: &[i32],
     shape: Shape,
     i: usize,
-    rh: &mut [i32; 2064],
-    rv: &mut [i32; 2064],
-    rd: &mut [i32; 2064],
-    fh: &mut [i32; 2064],
-    fv: &mut [i32; 2064],
-    fd: &mut [i32; 2064],
-    codes: &mut [u8; 2048],
+    scratch: &mut Scratch,
     out: &mut [i32],
     map: &mut [u8],
 )
     requires some_samples { SomeSamples (λ (zs : List ℕ). SecondLent (frame shape zs) i diagonals.now verticals.now map.old) }
     requires out_len { length out.old ≡ shape.height * shape.width }
-    requires rh_len { (length rh.old ≡ 2064) × (length rv.old ≡ 2064) × (length rd.old ≡ 2064)
-        × (length fh.old ≡ 2064) × (length fv.old ≡ 2064) × (length fd.old ≡ 2064) × (length codes.old ≡ 2048) }
     ensures second_stores { SecondStores shape i diagonals.now verticals.now out.old out.new
         map.old map.new }
-    ensures rh_len_2 { (length rh.new ≡ 2064) × (length rv.new ≡ 2064) × (length rd.new ≡ 2064)
-        × (length fh.new ≡ 2064) × (length fv.new ≡ 2064) × (length fd.new ≡ 2064)
-        × (length codes.new ≡ 2048) }
 {
     let w = shape.width;
     let c = positions::first_chroma(shape.phase, i);
     let count = positions::half_count(w, c);
-    trial_rows(diagonals, verticals, shape, i, c, count, rh, rv, rd);
-    sums::sum_row(
-        diagonals, verticals, shape, i, count, 3, rh, rv, rd, fh, fv, fd,
-    );
-    second_row(rh, rv, rd, fh, fv, fd, &map[..], out, codes, i * w, count);
+    let trials = &mut scratch.trials;
+    let sums = &mut scratch.sums;
+    let codes = &mut scratch.codes;
+    trial_rows(diagonals, verticals, shape, i, c, count, trials);
+    sums::sum_row(diagonals, verticals, shape, i, count, 3, trials, sums);
+    second_row(trials, sums, map, out, codes, i * w, count);
     map_row(codes, map, i * w, c, w);
 }

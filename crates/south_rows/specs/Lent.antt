@@ -9,7 +9,7 @@ use Rattle.south_rows.specs.SevenRows.{down_pair, SmallRows, NorthReads, SouthLe
 use Rattle.south_rows.specs.SevenRowLaws.{small_less, pair_small}
 use Rattle.south_rows.specs.NorthRows.{seven_small}
 
-module _ {shape : Shape} {c to : ℕ} {at rows v : List ℕ} {gradients out : List ℤ} (l : SouthLent shape c to at rows v gradients out) where
+module _ {shape : Shape} {c to : ℕ} {at rows : List ℕ} {out : List ℤ} (l : SouthLent shape c to at rows out) where
   pub lent_limits : (2 ≤ shape.width) × (shape.width ≤ 4096) × (c ≤ 1)
   lent_limits = (l.reads.taken.wide, l.reads.taken.narrow, rw l.reads.start (chroma_small shape.phase l.row))
 

@@ -61,12 +61,10 @@ pub record SouthReads (f : Frame) (x c : ℕ) (at rows : List ℕ) : Type 0 wher
   pub seven : Seven f x at rows
 
 -- what a line is lent: such rows of some frame, and room
-pub record SouthLent (shape : Shape) (c to : ℕ) (at rows v : List ℕ) (gradients out : List ℤ) : Type 0 where
+pub record SouthLent (shape : Shape) (c to : ℕ) (at rows : List ℕ) (out : List ℤ) : Type 0 where
   pub samples : List ℕ
   pub row : ℕ
   pub reads : SouthReads (frame shape samples) row c at rows
-  pub v_size : length v ≡ 4112
-  pub gradients_size : length gradients ≡ 4112
   pub room : to + shape.width ≤ length out
 
 -- N of row x in halves, whatever the frame and x

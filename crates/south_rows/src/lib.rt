@@ -3,61 +3,41 @@
 
 ghost use Rattle.std.specs.Prelude.{◌≡◌, ℕ, ◌+◌, ◌≤◌, pos, length};
 ghost use Rattle.toolkit.specs.Entries.{Entries};
-ghost use Rattle.south_rows.specs.SevenRows.{column_pair, down_pair, north_sum};
-ghost use Rattle.south_rows.specs.SevenRows.{SmallEntry, SmallRows, NorthReads, SouthLent, SouthStores};
+ghost use Rattle.south_rows.specs.SevenRows.{down_pair, north_sum};
+ghost use Rattle.south_rows.specs.SevenRows.{SmallRows, NorthReads, SouthLent, SouthStores};
 
 use east_rows::{bend, gradient, take_half};
 use frame::Shape;
 use positions::half_count;
 
-// The pair of s down the column of entry k of the rows that start at the entries a to g.
-fn down(
-    rows: &[u16; 98688],
-    a: usize,
-    b: usize,
-    c: usize,
-    d: usize,
-    e: usize,
-    f: usize,
-    g: usize,
-    k: usize,
-) -> u16
-    requires { (SmallEntry rows.now (a + k)) × (SmallEntry rows.now (b + k)) × (SmallEntry rows.now (c + k))
-        × (SmallEntry rows.now (d + k)) × (SmallEntry rows.now (e + k)) × (SmallEntry rows.now (f + k))
-        × (SmallEntry rows.now (g + k)) }
-    ensures { (result ≡ column_pair rows.now a b c d e f g k) × (result ≤ 32760) }
+// The pair of s down the column of entry k of the rows that start at the entries of at.
+fn down(rows: &[u16; 98688], at: [usize; 7], k: usize) -> u16
+    requires { SmallRows (k + 1) at rows.now }
+    ensures { (result ≡ down_pair rows.now at k) × (result ≤ 32760) }
 {
-    let a = rows[a + k];
-    let b = rows[b + k];
-    let c = rows[c + k];
-    let d = rows[d + k];
-    let e = rows[e + k];
-    let f = rows[f + k];
-    let g = rows[g + k];
+    let a = rows[at[0] + k];
+    let b = rows[at[1] + k];
+    let c = rows[at[2] + k];
+    let d = rows[at[3] + k];
+    let e = rows[at[4] + k];
+    let f = rows[at[5] + k];
+    let g = rows[at[6] + k];
     bend(a, b, c, d, e, f) + bend(b, c, d, e, f, g)
 }
 
 // The pairs of the columns −1 to w of the rows that start at the entries of at.
 fn down_row(rows: &[u16; 98688], at: [usize; 7], out: &mut [u16; 4112], w: usize)
-    requires w_bound { (w ≤ 4096) × (length out.old ≡ 4112) }
+    requires w_bound { w ≤ 4096 }
     requires small_rows { SmallRows (w + 9) at rows.now }
     ensures { Entries 0 4112 7 (w + 9) (down_pair rows.now at) out.new }
 {
-    let a = at[0];
-    let b = at[1];
-    let c = at[2];
-    let d = at[3];
-    let e = at[4];
-    let f = at[5];
-    let g = at[6];
-    let mut k = 7;
-    while k < w + 9 {
-        out[k] = down(rows, a, b, c, d, e, f, g, k);
-        k += 1;
+    for k in 7..w + 9 {
+        out[k] = down(rows, at, k);
     }
 }
 
 // N at the columns 0 to w − 1, from the pairs and the two rows that start at the entries here and there.
+#[tactic(auto, unfolding(crate::specs::SevenRows::north_sum))]
 fn north_row(
     v: &[u16; 4112],
     rows: &[u16; 98688],
@@ -67,14 +47,11 @@ fn north_row(
     gradients: &mut [i32; 4112],
 )
     requires north_reads { NorthReads w here there rows.now v.now }
-    requires gradients_len { length gradients.old ≡ 4112 }
     ensures { Entries (pos 0) 4112 8 (w + 8)
         (λ (k : ℕ). pos (north_sum rows.now v.now here there k)) gradients.new }
 {
-    let mut k = 8;
-    while k < w + 8 {
+    for k in 8..w + 8 {
         gradients[k] = gradient(rows[here + k], rows[there + k], v[k], v[k - 1], v[k + 1]);
-        k += 1;
     }
 }
 
@@ -90,9 +67,8 @@ pub fn south_line(
     out: &mut [i32],
     to: usize,
 )
-    requires { SouthLent shape c to at rows.now v.old gradients.old out.old }
+    requires { SouthLent shape c to at rows.now out.old }
     ensures south_stores { SouthStores shape c to at rows.now out.old out.new }
-    ensures v_len { (length v.new ≡ 4112) × (length gradients.new ≡ 4112) }
 {
     let w = shape.width;
     let count = half_count(w, c);

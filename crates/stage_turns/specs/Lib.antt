@@ -1,4 +1,3 @@
 pub mod Distances
 pub mod RowsDue
 pub mod Turned
-pub mod Scratch

@@ -42,27 +42,26 @@ module _ {f : Frame} {i count : ℕ} {diagonals verticals rh rv rd : List ℤ} (
   module _ {t : ℕ} (few : t ≤ 4) where
     -- `add_columns`, with a half row of r_k
     pub columns_asked : {m : ℕ} (k : Direction) (row sums : List ℤ) → Half f.width start 0 (chroma_count f i + 8) (trials f k i) row
-        → length sums ≡ 2064 → Sized m 4 (count + 4) sums
-        → ((t ≤ 4) × (count ≤ 2048) × (length sums ≡ 2064)) × ((Sized 32760 0 (count + 8) row) × (Sized m 4 (count + 4) sums))
-    columns_asked k row sums h e s =
+        → Sized m 4 (count + 4) sums
+        → ((t ≤ 4) × (count ≤ 2048)) × ((Sized 32760 0 (count + 8) row) × (Sized m 4 (count + 4) sums))
+    columns_asked k row sums h s =
         let p = read.planes in
-        ((few, (count_room p same).0, e), (sized_as (row_sized f p.taken k start i row p.inside h) (omega arith) (omega arith) (omega arith), s))
+        ((few, (count_room p same).0), (sized_as (row_sized f p.taken k start i row p.inside h) (omega arith) (omega arith) (omega arith), s))
 
     -- `add_rows`, with a half row and a plane of r_k
     pub rows_asked : {m : ℕ} (k : Direction) (row plane sums : List ℤ) (above below : ℕ)
         → Half f.width start 4 (chroma_count f i + 4) (trials f k i) row
         → HeldNear f i (trials f k) plane → length plane ≡ f.height * f.width
         → (above ≡ reflect f.height (sub_ℕ i (2 * t))) × (above < f.height) → (below ≡ reflect f.height (pos (i + 2 * t))) × (below < f.height)
-        → length sums ≡ 2064 → Sized m 4 (count + 4) sums
-        → ((above * f.width + count ≤ length plane) × (below * f.width + count ≤ length plane) × (length plane ≤ 67108864) × (count ≤ 2048)
-        × (length sums ≡ 2064))
+        → Sized m 4 (count + 4) sums
+        → ((above * f.width + count ≤ length plane) × (below * f.width + count ≤ length plane) × (length plane ≤ 67108864) × (count ≤ 2048))
         × ((Sized 32760 4 (count + 4) row) × (Sized 32760 (above * f.width) (above * f.width + count) plane)
         × (Sized 32760 (below * f.width) (below * f.width + count) plane) × (Sized m 4 (count + 4) sums))
-    rows_asked k row plane sums above below h held size a b e s =
+    rows_asked k row plane sums above below h held size a b s =
         let p = read.planes in
         let u = row_place p same above a.1 in
         let v = row_place p same below b.1 in (
-          (omega (arith, u), omega (arith, v), omega (arith, u), (count_room p same).0, e),
+          (omega (arith, u), omega (arith, v), omega (arith, u), (count_room p same).0),
           (
             sized_as (row_sized f p.taken k start i row p.inside h) (omega arith) (omega arith) (omega arith),
             plane_sized f p.taken k i above (above * f.width) count plane held
@@ -79,15 +78,15 @@ module _ {f : Frame} {i count : ℕ} {diagonals verticals rh rv rd : List ℤ} (
         → HeldNear f i (trials f k) plane → length plane ≡ f.height * f.width
         → (above ≡ reflect f.height (sub_ℕ i (2 * t))) × (above < f.height)
         → (below ≡ reflect f.height (pos (i + 2 * t))) × (below < f.height)
-        → length sums ≡ 2064 → Sized m 4 (count + 4) sums
+        → Sized m 4 (count + 4) sums
         → ((t ≤ 4) × (above * f.width + count ≤ length plane) × (below * f.width + count ≤ length plane) × (length plane ≤ 67108864)
-        × (count ≤ 2048) × (length sums ≡ 2064))
+        × (count ≤ 2048))
         × ((Sized 32760 0 (count + 8) row) × (Sized 32760 (above * f.width) (above * f.width + count) plane)
         × (Sized 32760 (below * f.width) (below * f.width + count) plane) × (Sized m 4 (count + 4) sums))
-    both_asked k row plane sums above below h held size a b e s =
-        let c = columns_asked k row sums h e s in
-        let r = rows_asked k row plane sums above below (middle (chroma_count f i) h) held size a b e s in
-        ((few, r.0.0, r.0.1, r.0.2, r.0.3, e), (c.1.0, r.1.1, r.1.2, s))
+    both_asked k row plane sums above below h held size a b s =
+        let c = columns_asked k row sums h s in
+        let r = rows_asked k row plane sums above below (middle (chroma_count f i) h) held size a b s in
+        ((few, r.0.0, r.0.1, r.0.2, r.0.3), (c.1.0, r.1.1, r.1.2, s))
 
     pub room_next : (above below : ℕ) (fh fv fd new_fh new_fv new_fd : List ℤ)
         → (above ≡ reflect f.height (sub_ℕ i (2 * t))) × (above < f.height)
@@ -96,15 +95,10 @@ module _ {f : Frame} {i count : ℕ} {diagonals verticals rh rv rd : List ℤ} (
         → SumsRoom (t * 131040) count new_fh new_fv new_fd
     room_next above below fh fv fd new_fh new_fv new_fd a b one room new =
         let p = read.planes in
-        let h = columns_asked horizontal rh fh read.across_row room.across_size room.across_most in
-        let v = rows_asked vertical rv verticals fv above below read.down_row p.verticals_held p.verticals_size a b room.down_size
-        room.down_most in
-        let d = both_asked diagonal rd diagonals fd above below read.both_row p.diagonals_held p.diagonals_size a b room.both_size
-        room.both_most in
+        let h = columns_asked horizontal rh fh read.across_row room.across_most in
+        let v = rows_asked vertical rv verticals fv above below read.down_row p.verticals_held p.verticals_size a b room.down_most in
+        let d = both_asked diagonal rd diagonals fd above below read.both_row p.diagonals_held p.diagonals_size a b room.both_most in
         record {
-          across_size = new.across.size;
-          down_size = new.down_columns.size;
-          both_size = new.both.size;
           across_most = entries_sized new.across (λ x l u.
               omega (arith, columns_most t count (entries_of fh) few h.1.0 x l u (room.across_most.each x l u)));
           down_most = entries_sized new.down_columns (λ x l u.
@@ -122,9 +116,6 @@ module _ {f : Frame} {i count : ℕ} {diagonals verticals rh rv rd : List ℤ} (
 pub room_none : {count : ℕ} {fh fv fd : List ℤ} → Entries (pos 0) 2064 4 (count + 4) (λ (x : ℕ). pos 0) fh
     → Entries (pos 0) 2064 4 (count + 4) (λ (x : ℕ). pos 0) fv → Entries (pos 0) 2064 4 (count + 4) (λ (x : ℕ). pos 0) fd → SumsRoom 0 count fh fv fd
 room_none a b c = record {
-  across_size = a.size;
-  down_size = b.size;
-  both_size = c.size;
   across_most = none _ a;
   down_most = none _ b;
   both_most = none _ c;
@@ -135,9 +126,6 @@ room_none a b c = record {
 
 pub room_as : {m n count : ℕ} {fh fv fd : List ℤ} → SumsRoom m count fh fv fd → m ≤ n → SumsRoom n count fh fv fd
 room_as r l = record {
-  across_size = r.across_size;
-  down_size = r.down_size;
-  both_size = r.both_size;
   across_most = sized_as r.across_most l (omega arith) (omega arith);
   down_most = sized_as r.down_most l (omega arith) (omega arith);
   both_most = sized_as r.both_most (omega arith) (omega arith) (omega arith);

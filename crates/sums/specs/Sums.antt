@@ -1,5 +1,5 @@
 -- The sums FH, FV and FD of the red and blue sites of a row, as half rows. Definitions alone. Assumes nothing.
-use Rattle.std.specs.Prelude.{◌≡◌, List, ℕ, ◌+◌, ◌*◌, ◌-◌, ◌%◌, ◌<◌, ◌≤◌, min, ℤ, pos, ◌+ℤ◌, ◌*ℤ◌, length, get_or}
+use Rattle.std.specs.Prelude.{◌≡◌, List, ℕ, ◌+◌, ◌*◌, ◌-◌, ◌%◌, ◌<◌, ◌≤◌, min, ℤ, pos, ◌+ℤ◌, ◌*ℤ◌, get_or}
 use Rattle.toolkit.specs.Entries.{Entries}
 use Rattle.frame.specs.Sites.{Frame, frame, Around, around}
 use Rattle.frame.specs.declared.Shape.{Shape}
@@ -79,9 +79,6 @@ pub record Summed (shape : Shape) (i n : ℕ) (diagonals verticals rh rv rd fh f
 
 -- half rows of sums: FD has the terms of both kinds
 pub record SumsRoom (m count : ℕ) (fh fv fd : List ℤ) : Type 0 where
-  pub across_size : length fh ≡ 2064
-  pub down_size : length fv ≡ 2064
-  pub both_size : length fd ≡ 2064
   pub across_most : Sized m 4 (count + 4) fh
   pub down_most : Sized m 4 (count + 4) fv
   pub both_most : Sized (2 * m) 4 (count + 4) fd

@@ -1,6 +1,9 @@
--- Laws of a number's decimal digits: the last one behind those of a tenth, and how many there are at most. Assumes nothing.
-use Rattle.std.specs.Prelude.{◌≡◌, [], ◌∷◌, ◌++◌, ℕ, zero, suc, ◌+◌, ◌*◌, ◌/◌, ◌%◌, ◌<◌, ◌≤◌, ltb, length}
+-- Laws of a number's decimal digits: the last one behind those of a tenth, how many there are at most, and that they are those that std and
+-- itoa print. Assumes nothing.
+use Rattle.std.specs.Prelude.{◌≡◌, [], ◌∷◌, ◌++◌, ℕ, zero, suc, ◌+◌, ◌*◌, ◌/◌, ◌%◌, ◌^◌, ◌<◌, ◌≤◌, ltb, length}
+use Rattle.std.specs.Fmt as Std
 use Rattle.std.proofs.Common.{arith, length-append}
+use Rattle.std.proofs.lemmas.Fmt.{AppendsLastDigit, decimal_from_appends, length-decimal-le_succ}
 use Rattle.toolkit.specs.Tests.{by_test, ltb_lt, ltb_ge, ltb_yes, ltb_no}
 use Rattle.printing.specs.Printing.{digits, decimal}
 
@@ -40,3 +43,14 @@ length_decimal (suc k) n h = by_test (ltb n 10) _
     (λ t.
     let low : 10 ≤ n = ltb_ge _ _ t in
     rw (decimal_tenth n low) (omega (arith, length-append (decimal (n / 10)) ((48 + n % 10) ∷ []), length_decimal k (n / 10) (omega arith))))
+
+last_digit_behind : AppendsLastDigit digits
+unfolding digits
+last_digit_behind = record {
+  one = λ k n h. let e : n % 10 ≡ n = omega arith in rw (ltb_yes {m = n} {n = 10} h, e);
+  more = λ k n h. rw (ltb_no {m = n} {n = 10} h);
+}
+
+pub decimal_printed : (n : ℕ) → n < 2 ^ 64 → decimal n ≡ Std.decimal n
+unfolding decimal
+decimal_printed n h = decimal_from_appends digits last_digit_behind (suc n) n h (omega (arith, length-decimal-le_succ n h))

@@ -1,97 +1,96 @@
--- The lines of a site and of a refusal as pieces, each number with the byte behind it. Assumes nothing.
-use Rattle.std.specs.Prelude.{◌≡◌, List, [], ◌∷◌, ◌++◌, ℕ, ◌+◌, ◌<◌, ◌≤◌, length}
-use Rattle.std.proofs.Common.{sym, ◌∙◌, ap, append_assoc, arith, length-append}
+-- A line of numbers, as it is printed number by number, and the lines of a site and of a refusal. Assumes nothing.
+use Rattle.std.specs.Prelude.{◌≡◌, refl, List, [], ◌∷◌, ◌++◌, ℕ, zero, suc, ◌+◌, ◌<◌, ◌≤◌, length, get_or, drop}
+use Rattle.std.proofs.Common.{ap, arith, add-one, append_assoc, length-append}
+use Rattle.std.proofs.Math.Seq.{drop-cons, drop-length}
 use Rattle.frame.specs.declared.Refusal.{Refusal}
 use Rattle.frame.specs.Calls.{number_and_place}
 use Rattle.printing.specs.Printing.{decimal, numbers_line, refused_word, refusal_text}
-use Rattle.text.specs.Put.{Put, put_then, put_as}
 use Rattle.text.specs.Digits.{tens, length_decimal}
 
--- a number and the byte behind it
-abbrev pub ended : ℕ → ℕ → List ℕ
-ended n end = decimal n ++ (end ∷ [])
+-- what stands behind a number: the other numbers with a space before each, and the end of the line
+abbrev pub behind : List ℕ → List ℕ
+behind [] = 10 ∷ []
+behind (m ∷ rest) = 32 ∷ numbers_line (m ∷ rest)
 
-abbrev pub spaced : ℕ → List ℕ
-spaced n = ended n 32
+-- what is left of the line behind its first k numbers
+abbrev pub left_of_line : List ℕ → ℕ → List ℕ
+left_of_line numbers zero = numbers_line numbers
+left_of_line numbers (suc k) = behind (drop (suc k) numbers)
 
-abbrev pub last : ℕ → List ℕ
-last n = ended n 10
-
-pub length_ended : (n end : ℕ) → length (ended n end) ≡ length (decimal n) + 1
-length_ended n end = length-append (decimal n) (end ∷ [])
-
-pub five_numbers : (i j r g b : ℕ)
-    → (((spaced i ++ spaced j) ++ spaced r) ++ spaced g) ++ last b ≡ numbers_line (i ∷ j ∷ r ∷ g ∷ b ∷ [])
+number_first : (n : ℕ) (rest : List ℕ) → numbers_line (n ∷ rest) ≡ decimal n ++ behind rest
 unfolding numbers_line
-five_numbers i j r g b = simp append_assoc
+number_first n [] = refl
+number_first n (m ∷ rest) = refl
 
--- with the byte behind each
-pub length_five : (i j r g b : ℕ)
-    → length (numbers_line (i ∷ j ∷ r ∷ g ∷ b ∷ []))
-    ≡ (length (decimal i) + 1) + ((length (decimal j) + 1) + ((length (decimal r) + 1) + ((length (decimal g) + 1) + (length (decimal b) + 1))))
-length_five i j r g b =
-    sym (ap length (five_numbers i j r g b))
-    ∙ omega (
-      arith,
-      length-append (((spaced i ++ spaced j) ++ spaced r) ++ spaced g) (last b),
-      length-append ((spaced i ++ spaced j) ++ spaced r) (spaced g),
-      length-append (spaced i ++ spaced j) (spaced r),
-      length-append (spaced i) (spaced j),
-      length_ended i 32,
-      length_ended j 32,
-      length_ended r 32,
-      length_ended g 32,
-      length_ended b 10,
-    )
+first_number : (numbers : List ℕ) → 0 < length numbers → left_of_line numbers 0 ≡ decimal (get_or numbers 0 0) ++ left_of_line numbers 1
+first_number [] h = absurd (omega arith)
+first_number (n ∷ rest) h = number_first n rest
 
-module _ {t0 t1 t2 t3 t4 t5 : List ℕ} {a0 a1 a2 a3 a4 a5 : ℕ} (i j r g b : ℕ)
-    (room : a0 + length (numbers_line (i ∷ j ∷ r ∷ g ∷ b ∷ [])) ≤ length t0) where
-  pub five_put : Put t0 a0 (spaced i) t1 a1 → Put t1 a1 (spaced j) t2 a2 → Put t2 a2 (spaced r) t3 a3 → Put t3 a3 (spaced g) t4 a4
-      → Put t4 a4 (last b) t5 a5 → Put t0 a0 (numbers_line (i ∷ j ∷ r ∷ g ∷ b ∷ [])) t5 a5
-  five_put p q s t u =
-      let li = length_ended i 32 in
-      let lj = length_ended j 32 in
-      let lr = length_ended r 32 in
-      let lg = length_ended g 32 in
-      let two = length-append (spaced i) (spaced j) in
-      let three = length-append (spaced i ++ spaced j) (spaced r) in
-      let four = length-append ((spaced i ++ spaced j) ++ spaced r) (spaced g) in
-      let all = length_five i j r g b in
-      put_as (five_numbers i j r g b)
-      (put_then (omega arith) (put_then (omega arith) (put_then (omega arith) (put_then (omega arith) p q) s) t) u)
+later_number : (numbers : List ℕ) (k : ℕ) → 0 < k → k < length numbers
+    → left_of_line numbers k ≡ 32 ∷ (decimal (get_or numbers k 0) ++ left_of_line numbers (k + 1))
+later_number numbers zero low h = absurd (omega arith)
+later_number numbers (suc k) low h = rw (add-one, drop-cons numbers (suc k) 0) (ap (λ (l : List ℕ). 32 ∷ l) (number_first _ _))
 
--- a line of numbers below 10,000 has at most 25 bytes
+no_number : (numbers : List ℕ) → left_of_line numbers (length numbers) ≡ 10 ∷ []
+unfolding numbers_line
+no_number [] = refl
+no_number (n ∷ rest) = rw (drop-length rest)
+
+-- the text so far and what is left of the line make up all of it
+pub record Printed (all numbers text : List ℕ) (k : ℕ) : Type 0 where
+  pub whole : text ++ left_of_line numbers k ≡ all
+
+-- the same before number k, behind the space where there is one
+pub record BeforeNumber (all numbers text : List ℕ) (k : ℕ) : Type 0 where
+  pub whole : text ++ (decimal (get_or numbers k 0) ++ left_of_line numbers (k + 1)) ≡ all
+
+module _ {all numbers text : List ℕ} {k : ℕ} (p : Printed all numbers text k) where
+  pub at_first : {same : List ℕ} → k ≡ 0 → k < length numbers → same ≡ text → BeforeNumber all numbers same k
+  at_first z h e = record { whole = rw (e, z) (rw (z, first_number numbers (omega arith)) at p.whole) }
+
+  pub behind_space : {spaced : List ℕ} → 0 < k → k < length numbers → spaced ≡ text ++ (32 ∷ []) → BeforeNumber all numbers spaced k
+  behind_space low h e = record { whole = rw (e, append_assoc) (rw (later_number numbers k low h) at p.whole) }
+
+  pub room_for_byte : 0 < k → k < length numbers → length text + 1 ≤ length all
+  room_for_byte low h =
+      omega (arith, ap length p.whole, length-append text (left_of_line numbers k), ap length (later_number numbers k low h))
+
+  pub at_end : k ≡ length numbers → text ++ (10 ∷ []) ≡ all
+  at_end e = rw (← no_number numbers, ← e) p.whole
+
+module _ {all numbers text : List ℕ} {k : ℕ} (b : BeforeNumber all numbers text k) where
+  pub room_for_number : length text + length (decimal (get_or numbers k 0)) ≤ length all
+  room_for_number =
+      omega (
+        arith,
+        ap length b.whole,
+        length-append text (decimal (get_or numbers k 0) ++ left_of_line numbers (k + 1)),
+        length-append (decimal (get_or numbers k 0)) (left_of_line numbers (k + 1)),
+      )
+
+  pub behind_number : {more : List ℕ} → more ≡ text ++ decimal (get_or numbers k 0) → Printed all numbers more (k + 1)
+  behind_number e = record { whole = rw (e, append_assoc) b.whole }
+
+-- a line of five numbers below 10,000 has at most 25 bytes
 pub site_line_short : (i j r g b : ℕ) → i < 10000 → j < 10000 → r < 10000 → g < 10000 → b < 10000
     → length (numbers_line (i ∷ j ∷ r ∷ g ∷ b ∷ [])) ≤ 25
-unfolding tens
+unfolding numbers_line tens
 site_line_short i j r g b hi hj hr hg hb =
-    omega (
-      arith,
-      length_five i j r g b,
-      length_decimal 3 i hi,
-      length_decimal 3 j hj,
-      length_decimal 3 r hr,
-      length_decimal 3 g hg,
-      length_decimal 3 b hb,
-    )
-
-abbrev pub word : List ℕ
-word = 114 ∷ 101 ∷ 102 ∷ 117 ∷ 115 ∷ 101 ∷ 100 ∷ 32 ∷ []
-
-pub refusal_pieces : (why : Refusal) (n p : ℕ) → n ≡ (number_and_place why).number → p ≡ (number_and_place why).place
-    → (word ++ spaced n) ++ last p ≡ refusal_text why
-unfolding refusal_text refused_word numbers_line
-refusal_pieces why n p e f = rw (← e, ← f) (simp append_assoc)
+    let digits = λ (n : ℕ) (h : n < 10000). length_decimal 3 n h in
+    simp length-append (omega (arith, digits i hi, digits j hj, digits r hr, digits g hg, digits b hb))
 
 -- a number of 64 bits has at most 20 digits
 pub digits_64 : (n : ℕ) → n < 18446744073709551616 → length (decimal n) ≤ 20
 unfolding tens
 digits_64 n h = length_decimal 19 n (omega arith)
 
-pub refusal_put : {t0 t1 t2 t3 : List ℕ} {a1 a2 a3 : ℕ} (why : Refusal) (n p : ℕ) → n ≡ (number_and_place why).number
-    → p ≡ (number_and_place why).place → 8 + (length (decimal n) + 1) ≤ length t0
-    → Put t0 0 word t1 a1 → Put t1 a1 (spaced n) t2 a2 → Put t2 a2 (last p) t3 a3 → Put t0 0 (refusal_text why) t3 a3
-refusal_put why n p e f room x y z =
-    let size = length_ended n 32 in
-    let two = length-append word (spaced n) in
-    put_as (refusal_pieces why n p e f) (put_then (omega arith) (put_then (omega arith) x y) z)
+-- the line of a refusal's number and place has at most 42
+pub refusal_line_short : (n p : ℕ) → n < 18446744073709551616 → p < 18446744073709551616 → length (numbers_line (n ∷ p ∷ [])) ≤ 42
+unfolding numbers_line
+refusal_line_short n p hn hp =
+    simp length-append (omega (arith, digits_64 n hn, digits_64 p hp))
+
+pub refusal_pieces : (why : Refusal) (n p : ℕ) → n ≡ (number_and_place why).number → p ≡ (number_and_place why).place
+    → (114 ∷ 101 ∷ 102 ∷ 117 ∷ 115 ∷ 101 ∷ 100 ∷ 32 ∷ []) ++ numbers_line (n ∷ p ∷ []) ≡ refusal_text why
+unfolding refusal_text refused_word
+refusal_pieces why n p e f = rw (e, f)

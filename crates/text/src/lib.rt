@@ -1,87 +1,63 @@
-// Text composed into a lent buffer, from a position on. Each function answers the position behind what it put there.
+// The text that the program prints, put together piece by piece. Not by `write!`, whose contract leaves open whether the text fits.
 #![tactic(auto)]
 
-ghost use Rattle.std.specs.Prelude.{[], ◌∷◌, ◌++◌, ◌+◌, ◌≤◌, length};
+ghost use Rattle.std.specs.Prelude.{◌≡◌, [], ◌∷◌, ◌++◌, ◌+◌, ◌≤◌, length};
 ghost use Rattle.printing.specs.Printing.{decimal, numbers_line, refusal_text};
-ghost use Rattle.text.specs.Put.{Put};
 
+use arrayvec::ArrayString;
 use frame::Refusal;
+use itoa::Buffer;
 
-// One byte.
-pub fn byte(text: &mut [u8], at: usize, value: u8) -> usize
-    requires { at + 1 ≤ length text.old }
-    ensures { Put text.old at (value ∷ []) text.new result }
+// The bytes that a text has room for: 23 of the heading, and 25 for each of 1,024 sites.
+pub const ROOM: usize = 25623;
+
+// A text, whose bytes lie in the value itself.
+pub type Text = ArrayString<ROOM>;
+
+// A number in decimal digits.
+#[tactic(auto, using(crate::specs::Digits::decimal_printed))]
+fn number<const CAP: usize>(text: &mut ArrayString<CAP>, n: usize)
+    requires { length text.old.bytes + length (decimal n) ≤ CAP }
+    ensures { text.new.bytes ≡ text.old.bytes ++ decimal n }
 {
-    text[at] = value;
-    at + 1
+    text.push_str(Buffer::new().format(n));
 }
 
-// A string of bytes.
-pub fn bytes(text: &mut [u8], at: usize, piece: &[u8]) -> usize
-    requires { at + length piece.now ≤ length text.old }
-    ensures { Put text.old at piece.now text.new result }
+// Numbers with spaces between them, and the end of the line.
+fn numbers_line<const CAP: usize>(text: &mut ArrayString<CAP>, numbers: &[usize])
+    requires { length text.old.bytes + length (numbers_line numbers.now) ≤ CAP }
+    ensures { text.new.bytes ≡ text.old.bytes ++ numbers_line numbers.now }
 {
-    packing::store_bytes(text, at, piece);
-    at + piece.len()
-}
-
-// A digit from 0 to 9.
-fn digit(text: &mut [u8], at: usize, value: usize) -> usize
-    requires { (value ≤ 9) × (at + 1 ≤ length text.old) }
-    ensures { Put text.old at ((48 + value) ∷ []) text.new result }
-{
-    byte(text, at, 48 + value as u8)
-}
-
-// A number in decimal digits, the highest first.
-pub fn number(text: &mut [u8], at: usize, n: usize) -> usize
-    requires { at + length (decimal n) ≤ length text.old }
-    ensures { Put text.old at (decimal n) text.new result }
-{
-    if n < 10 {
-        return digit(text, at, n);
+    for (k, n) in numbers.iter().enumerate() {
+        if k > 0 {
+            text.push_str(" ");
+        }
+        number(text, *n);
     }
-    let next = number(text, at, n / 10);
-    digit(text, next, n % 10)
-}
-
-// A number and one byte behind it.
-pub fn number_then(text: &mut [u8], at: usize, n: usize, end: u8) -> usize
-    requires { at + (length (decimal n) + 1) ≤ length text.old }
-    ensures { Put text.old at (decimal n ++ (end ∷ [])) text.new result }
-{
-    let next = number(text, at, n);
-    byte(text, next, end)
+    text.push_str("\n");
 }
 
 // The line of a site: row, column and the three colours.
-pub fn site_line(
-    text: &mut [u8],
-    at: usize,
+pub fn site_line<const CAP: usize>(
+    text: &mut ArrayString<CAP>,
     row: usize,
     column: usize,
     red: usize,
     green: usize,
     blue: usize,
-) -> usize
-    requires { at + length (numbers_line (row ∷ column ∷ red ∷ green ∷ blue ∷ [])) ≤ length text.old }
-    ensures { Put text.old at (numbers_line (row ∷ column ∷ red ∷ green ∷ blue ∷ [])) text.new result }
+)
+    requires { length text.old.bytes + length (numbers_line (row ∷ column ∷ red ∷ green ∷ blue ∷ [])) ≤ CAP }
+    ensures { text.new.bytes ≡ text.old.bytes ++ numbers_line (row ∷ column ∷ red ∷ green ∷ blue ∷ []) }
 {
-    let after_row = number_then(text, at, row, b' ');
-    let after_column = number_then(text, after_row, column, b' ');
-    let after_red = number_then(text, after_column, red, b' ');
-    let after_green = number_then(text, after_red, green, b' ');
-    number_then(text, after_green, blue, b'\n')
+    numbers_line(text, &[row, column, red, green, blue]);
 }
 
-// The line of a refusal: the word, number and place.
-pub fn refusal(text: &mut [u8], why: Refusal) -> usize
-    requires { 64 ≤ length text.old }
-    ensures { Put text.old 0 (refusal_text why) text.new result }
+// The text of a refusal: the word, number and place.
+pub fn refusal(why: Refusal) -> Text
+    ensures { result.bytes ≡ refusal_text why }
 {
-    let number = frame::number_of(why);
-    let place = frame::place_of(why);
-    let after_word = bytes(text, 0, b"refused ");
-    let after_number = number_then(text, after_word, number, b' ');
-    number_then(text, after_number, place, b'\n')
+    let mut text = Text::new();
+    text.push_str("refused ");
+    numbers_line(&mut text, &[frame::number_of(why), frame::place_of(why)]);
+    text
 }

@@ -1,4 +1,5 @@
 -- What write answers at each of its returns, and what it leaves. Assumes nothing.
+use Rattle.std.specs.Prelude.{Err}
 use mathlib.Core.Path.{◌≡◌, sym, ◌∙◌, ap}
 use mathlib.Core.Bool.{true}
 use mathlib.Core.List.{List}
@@ -11,10 +12,8 @@ use Rattle.toolkit.specs.Tests.{eqb_yes}
 use Rattle.frame.specs.declared.Shape.{Shape}
 use Rattle.frame.specs.declared.Refusal.{Refusal}
 use Rattle.frame.specs.declared.Refusal.TheVariants.{BufferLength}
-use Rattle.frame.specs.declared.Answer.{Answer}
-use Rattle.frame.specs.declared.Answer.TheVariants.{Done, Refused}
 use Rattle.frame.specs.Sites.{frame, highest_sample}
-use Rattle.frame.specs.Calls.{tested, and_then, samples_answer}
+use Rattle.frame.specs.Calls.{tested, and_then, samples_answer, Answer, no_refusal}
 use Rattle.frame.proofs.Admission.{samples_done}
 use Rattle.admission.specs.ShapeTest.{shape_answer, count_answer}
 use Rattle.admission.specs.InOrder.{in_order}
@@ -30,32 +29,32 @@ module _ (shape : Shape) (mosaic file : List ℕ) where
   -- numbers 1 and 2, then 3, then 4, then 5
   answer_is : answer ≡ and_then (shape_answer shape)
       (and_then (count_answer shape (length mosaic))
-      (tested (eqb (length file) (file_length (frame shape mosaic))) BufferLength (and_then (samples_answer mosaic) Done)))
+      (tested (eqb (length file) (file_length (frame shape mosaic))) BufferLength (and_then (samples_answer mosaic) no_refusal)))
   unfolding write_answer
-  answer_is = in_order shape mosaic Done (eqb (length file) (file_length (frame shape mosaic))) Done
+  answer_is = in_order shape mosaic no_refusal (eqb (length file) (file_length (frame shape mosaic))) no_refusal
 
   -- what write returns and leaves
   abbrev pub Wrote : Answer → List ℕ → Type 0
   Wrote a last = (a ≡ answer) × (last ≡ file_after_write (frame shape mosaic) file)
 
   -- a refusal is answered, and leaves the file
-  refused_so : (why : Refusal) → answer ≡ Refused why → Wrote (Refused why) file
+  refused_so : (why : Refusal) → answer ≡ Err why → Wrote (Err why) file
   unfolding file_after_write
   refused_so why e = (sym e, rw e)
 
-  pub shape_refused : (why : Refusal) → shape_answer shape ≡ Refused why → Wrote (Refused why) file
+  pub shape_refused : (why : Refusal) → shape_answer shape ≡ Err why → Wrote (Err why) file
   shape_refused why e = refused_so why (answer_is ∙ rw e)
 
-  pub count_refused : shape_answer shape ≡ Done → (why : Refusal) → count_answer shape (length mosaic) ≡ Refused why
-      → Wrote (Refused why) file
+  pub count_refused : shape_answer shape ≡ no_refusal → (why : Refusal) → count_answer shape (length mosaic) ≡ Err why
+      → Wrote (Err why) file
   count_refused done why e = refused_so why (answer_is ∙ rw (done, e))
 
-  module _ (done : shape_answer shape ≡ Done) (count : count_answer shape (length mosaic) ≡ Done) where
+  module _ (done : shape_answer shape ≡ no_refusal) (count : count_answer shape (length mosaic) ≡ no_refusal) where
     file_length_is : file_length (frame shape mosaic) ≡ 512 * block_count (length mosaic)
     unfolding file_length
     file_length_is = ap (λ (n : ℕ). 512 * block_count n) (sym (count_passes shape (length mosaic) count))
 
-    pub size_refused : ¬ (length file ≡ 512 * block_count (length mosaic)) → Wrote (Refused BufferLength) file
+    pub size_refused : ¬ (length file ≡ 512 * block_count (length mosaic)) → Wrote (Err BufferLength) file
     size_refused h =
         refused_so BufferLength
         (answer_is ∙ rw (done, count, ne_eqb (length file) (file_length (frame shape mosaic)) (λ q. h (q ∙ file_length_is))))
@@ -64,10 +63,10 @@ module _ (shape : Shape) (mosaic file : List ℕ) where
       right_size : eqb (length file) (file_length (frame shape mosaic)) ≡ true
       right_size = eqb_yes (size ∙ sym file_length_is)
 
-      pub samples_refused : (why : Refusal) → samples_answer mosaic ≡ Refused why → Wrote (Refused why) file
+      pub samples_refused : (why : Refusal) → samples_answer mosaic ≡ Err why → Wrote (Err why) file
       samples_refused why e = refused_so why (answer_is ∙ rw (done, count, right_size, e))
 
-      module _ (small : samples_answer mosaic ≡ Done) where
+      module _ (small : samples_answer mosaic ≡ no_refusal) where
         pub ready : Ready shape mosaic (length file)
         unfolding highest_sample
         ready = record {
@@ -78,6 +77,6 @@ module _ (shape : Shape) (mosaic file : List ℕ) where
           size = size;
         }
 
-        pub all_written : (last : List ℕ) → last ≡ written_file (frame shape mosaic) → Wrote Done last
+        pub all_written : (last : List ℕ) → last ≡ written_file (frame shape mosaic) → Wrote no_refusal last
         unfolding file_after_write
-        all_written last e = let d : answer ≡ Done = answer_is ∙ rw (done, count, right_size, small) in (sym d, rw d e)
+        all_written last e = let d : answer ≡ no_refusal = answer_is ∙ rw (done, count, right_size, small) in (sym d, rw d e)

@@ -1,10 +1,10 @@
 -- A block composed in 512 zero bytes, and the blocks of a file one after the other. Assumes nothing.
 use mathlib.Core.Path.{◌≡◌, refl, sym, ◌∙◌, ap, ap₂}
 use mathlib.Core.List.{List, [], ◌++◌, append_assoc, append-nil}
-use Prim.Native.Nat.{ℕ, ◌+◌, ◌-◌, ◌≤◌, ◌<◌}
+use Prim.Native.Nat.{ℕ, ◌+◌, ◌-◌, ◌≤◌}
 use native.Mathlib.Omega.{arith}
-use lib.ListN.{length, take, drop, length-append, length-drop, drop_of_length-le}
-use lib.Seq.{take_all, take_at, drop-drop}
+use lib.ListN.{length, take, drop, length-append, drop_of_length-le}
+use lib.Seq.{take_at, drop-drop}
 use borrow.Rule.Slice.PartMut.{put_mid}
 use Rattle.frame.specs.declared.Shape.{Shape}
 use Rattle.frame_file.specs.Lists.{part, get_d_front, zeros, length_zeros, drop_zeros, zeros_append, length_part, put_at, put_at_next}
@@ -84,9 +84,3 @@ samples_composed n samples number bytes b b1 b2 e en eb e1 e2 =
     ∙ ap with_check
     (ap (λ (t : List ℕ). part (put_mid 4 500 t bytes) 0 508) (e1 ∙ ap (λ (t : List ℕ). put_at t 0 number) e)
     ∙ samples_filled n samples number bytes en eb)
-
--- a part that the list ends in
-pub part_to_end : (l : List ℕ) (a n : ℕ) → length l - a < n → take (length l - a) (drop a l) ≡ part l a n
-unfolding part
-part_to_end l a n h =
-    take_all (length l - a) (drop a l) (omega (arith, length-drop a l)) ∙ sym (take_all n (drop a l) (omega (arith, length-drop a l)))

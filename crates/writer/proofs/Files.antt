@@ -28,9 +28,6 @@ first_written shape mosaic old file e =
     let whole : file ≡ first ++ drop (0 + length first) old = e ∙ put_at_next [] old first 0 refl in
     whole ∙ ap (λ (t : List ℕ). first ++ t) (sym (ap (drop 512) whole ∙ drop_at first (drop (0 + length first) old) 512 size))
 
-pub written_none : (mosaic before : List ℕ) → Written mosaic before before 1
-written_none mosaic before = record { low = omega arith; size = refl; blocks = λ shape e. e }
-
 later_block : (shape : Shape) (mosaic samples : List ℕ) (n : ℕ) → 1 ≤ n → samples ≡ part mosaic (400 * (n - 1)) 400
     → with_check (sample_bytes n (filled_up samples)) ≡ written_block (frame shape mosaic) n
 unfolding written_block block_samples

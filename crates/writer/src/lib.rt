@@ -10,33 +10,20 @@ ghost use Rattle.writer.specs.Ready.{Ready};
 use frame::{Answer, Refusal, Shape};
 
 // The first 13 bytes of block 0: number, tag, W, H, phase.
+#[tactic(auto, unfolding(frame_file::specs::Lists::part, frame_file::specs::FrameFile::header_bytes, frame_file::specs::FrameFile::little_endian_bytes, frame_file::specs::FrameFile::tag))]
 fn header_front(shape: Shape) -> [u8; 13]
     requires { shape.phase ≤ 3 }
     ensures { result ≡ part (header_bytes shape) 0 13 }
 {
-    let tag = block::TAG;
-    let width = shape.width;
-    let height = shape.height;
-    [
-        0,
-        0,
-        0,
-        0,
-        tag[0],
-        tag[1],
-        tag[2],
-        tag[3],
-        (width % 256) as u8,
-        (width / 256 % 256) as u8,
-        (height % 256) as u8,
-        (height / 256 % 256) as u8,
-        shape.phase as u8,
-    ]
+    let [b, a, y, r] = block::TAG;
+    let [w0, w1, ..] = shape.width.to_le_bytes();
+    let [h0, h1, ..] = shape.height.to_le_bytes();
+    [0, 0, 0, 0, b, a, y, r, w0, w1, h0, h1, shape.phase as u8]
 }
 
 // Stores the check of a block's first 508 bytes after them.
-fn store_check(b: &mut [u8])
-    requires { length b.old ≡ 512 }
+#[tactic(auto, using(crate::proofs::Blocks::check_stored))]
+fn store_check(b: &mut [u8; 512])
     ensures { b.new ≡ with_check (part b.old 0 508) }
 {
     let check = block::bytes4(block::check_of(b));
@@ -44,8 +31,9 @@ fn store_check(b: &mut [u8])
 }
 
 // Fills 512 zero bytes with block 0.
-fn fill_header(b: &mut [u8], shape: Shape)
-    requires b_len { (length b.old ≡ 512) × (b.old ≡ zeros 512) }
+#[tactic(auto, using(crate::proofs::Blocks::header_composed))]
+fn fill_header(b: &mut [u8; 512], shape: Shape)
+    requires b_zero { b.old ≡ zeros 512 }
     requires phase_bound { shape.phase ≤ 3 }
     ensures { b.new ≡ with_check (header_bytes shape) }
 {
@@ -55,8 +43,9 @@ fn fill_header(b: &mut [u8], shape: Shape)
 }
 
 // Fills 512 zero bytes with block n: number, payload, check.
-fn fill_samples(b: &mut [u8], samples: &[u16], n: usize)
-    requires b_len { (length b.old ≡ 512) × (b.old ≡ zeros 512) }
+#[tactic(auto, using(crate::proofs::Blocks::samples_composed))]
+fn fill_samples(b: &mut [u8; 512], samples: &[u16], n: usize)
+    requires b_zero { b.old ≡ zeros 512 }
     requires below { Below 1024 samples.now }
     ensures { b.new ≡ with_check (sample_bytes n (filled_up samples.now)) }
 {
@@ -67,6 +56,7 @@ fn fill_samples(b: &mut [u8], samples: &[u16], n: usize)
 }
 
 // Composes block 0 in 512 zero bytes and copies it out.
+#[tactic(auto, unfolding(frame_file::specs::Lists::zeros))]
 fn write_header(file: &mut [u8], shape: Shape)
     requires in_bounds { 512 ≤ length file.old }
     requires phase_bound { shape.phase ≤ 3 }
@@ -78,6 +68,7 @@ fn write_header(file: &mut [u8], shape: Shape)
 }
 
 // Composes block n in 512 zero bytes and copies it out.
+#[tactic(auto, unfolding(frame_file::specs::Lists::zeros))]
 fn write_samples(file: &mut [u8], samples: &[u16], n: usize)
     requires n_bound { (n < 65536) × (512 * n + 512 ≤ length file.old) }
     requires below { Below 1024 samples.now }
@@ -94,10 +85,7 @@ fn samples_of(mosaic: &[u16], n: usize) -> &[u16]
     ensures { result.now ≡ part mosaic.now (400 * (n - 1)) 400 }
 {
     let start = 400 * (n - 1);
-    if mosaic.len() - start < 400 {
-        return &mosaic[start..];
-    }
-    &mosaic[start..start + 400]
+    &mosaic[start..mosaic.len().min(start + 400)]
 }
 
 // The whole file, block by block.
@@ -107,10 +95,8 @@ fn write_blocks(file: &mut [u8], shape: Shape, mosaic: &[u16])
 {
     let count = block::count_for(mosaic.len());
     write_header(file, shape);
-    let mut n: usize = 1;
-    while n < count {
+    for n in 1..count {
         write_samples(file, samples_of(mosaic, n), n);
-        n += 1;
     }
 }
 
@@ -119,27 +105,13 @@ pub fn write(shape: Shape, mosaic: &[u16], file: &mut [u8]) -> Answer
     ensures answer { result ≡ write_answer (frame_of shape mosaic.now) (length file.old) }
     ensures left { file.new ≡ file_after_write (frame_of shape mosaic.now) file.old }
 {
-    match admission::test_shape(shape) {
-        Answer::Refused(why) => {
-            return Answer::Refused(why);
-        }
-        Answer::Done => {}
-    }
-    match admission::test_count(shape, mosaic.len()) {
-        Answer::Refused(why) => {
-            return Answer::Refused(why);
-        }
-        Answer::Done => {}
-    }
+    admission::test_shape(shape)?;
+    admission::test_count(shape, mosaic.len())?;
     let size = 512 * block::count_for(mosaic.len());
     if file.len() != size {
-        return Answer::Refused(Refusal::BufferLength);
+        return Err(Refusal::BufferLength);
     }
-    match admission::test_samples(mosaic) {
-        Answer::Refused(why) => Answer::Refused(why),
-        Answer::Done => {
-            write_blocks(file, shape, mosaic);
-            Answer::Done
-        }
-    }
+    admission::test_samples(mosaic)?;
+    write_blocks(file, shape, mosaic);
+    Ok(())
 }

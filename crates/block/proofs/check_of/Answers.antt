@@ -1,20 +1,17 @@
--- `block::check_of` meets its contract. The invariant: the sum is over the first k bytes. Assumes nothing.
-use Rattle.frame_file.proofs.Check.{term_bound}
-use Rattle.block.proofs.Loops.{summed_none, summed_next, summed_all}
+-- `block::check_of` meets its contract. Assumes nothing.
+use mathlib.Core.Path.{◌≡◌}
+use Prim.Native.Nat.{ℕ, ◌<◌}
+use lib.ListN.{length-take, get_or}
 use native.Mathlib.Omega.{arith}
+use Rattle.block.proofs.Laws.{front_byte, summed_next, summed_all}
 use Rattle.block.proofs.check_of.Goals as goal
 
-pub loop-k-init : goal.loop-k-init
-loop-k-init c = summed_none _
-
-pub overflow_mul-sum : goal.overflow_mul-sum
-overflow_mul-sum c = omega (arith, term_bound c.loop-k.k c.byte.result (omega arith) c.byte.ensures.1)
-
-pub overflow_add-sum-in-loop-k : goal.overflow_add-sum-in-loop-k
-overflow_add-sum-in-loop-k c = omega (arith, term_bound c.loop-k.k c.byte.result (omega arith) c.byte.ensures.1)
-
 pub loop-k-preserved : goal.loop-k-preserved
-loop-k-preserved c = summed_next _ _ _ _ (omega arith) c.loop-k.invariant c.byte.ensures.0 c.byte.ensures.1
+loop-k-preserved c =
+    let inside = c.loop-k-test.true in
+    let byte : c.from.result ≡ get_or c.args.block.now c.loop-k.k 0 = rw front_byte at c.from.ensures in
+    let small : c.from.result < 256 = omega (arith, c.type_inv.block c.loop-k.k) in
+    summed_next _ _ _ _ c.loop-k.invariant (omega (arith, length-take {A = ℕ})) byte small
 
 pub returns : goal.returns
-returns c = summed_all _ _ _ (omega arith) c.loop-k.invariant
+returns c = summed_all _ _ _ (omega (arith, length-take {A = ℕ})) c.loop-k.invariant

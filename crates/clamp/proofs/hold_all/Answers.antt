@@ -1,29 +1,17 @@
--- `clamp::hold_all` meets its contract. The invariant: the entries before k are held numbers. Assumes nothing.
-use mathlib.Core.Path.{◌∙◌, ap}
-use lib.ListN.{length-set}
+-- `clamp::hold_all` meets its contract. Assumes nothing.
+use Rattle.std.proofs.Common.{◌≡◌, ◌++◌, ◌∷◌, [], map, take, drop, set, get_or, ℕ, suc, ◌+◌, ◌<◌, length, ℤ, pos, List, arith, rules, sym, ◌∙◌, append_assoc, add-one, drop-cons}
+use Rattle.std.proofs.lemmas.List.{map_more, set_at, length-map, length-take}
 use Rattle.frame.specs.Calls.{held}
-use mir.Syntax.{w32}
-use mir.Facts.{to_z-of_z}
-use Rattle.clamp.proofs.Filling.{filled_none, filled_next, filled_all}
-use native.Mathlib.Omega.{arith}
-use borrow.Author.Rules.{rules}
 use Rattle.clamp.proofs.hold_all.Goals as goal
 
-pub loop-k-init : goal.loop-k-init
-loop-k-init c = (omega arith, c.requires, filled_none c.args.plane.now c.args.clamped.now)
+one_more : (plane before filled : List ℤ) (k : ℕ) (v : ℤ) → k < length plane → length before ≡ length plane
+    → filled ≡ map held (take k plane) ++ drop k before → v ≡ held (get_or plane k (pos 0))
+    → set filled k v ≡ map held (take (k + 1) plane) ++ drop (k + 1) before
+one_more plane before filled k v h same e is =
+    let front : List ℤ = map held (take k plane) in
+    rw (e, is, drop-cons before k (pos 0) (omega arith), map_more held plane k (pos 0), add-one)
+    (set_at front _ _ _ k (simp (length-map, length-take) (omega arith)) ∙ sym (append_assoc front (held (get_or plane k (pos 0)) ∷ []) (drop (suc k) before)))
 
 pub loop-k-preserved : goal.loop-k-preserved
-loop-k-preserved c = (
-  omega arith,
-  simp length-set (omega arith),
-  filled_next c.args.plane.now c.args.clamped.now _ _ _ (omega arith) c.requires
-      c.loop-k.invariant.2
-      (to_z-of_z {w = w32} (record { sfits = c.held_number.type_inv })
-      ∙ c.held_number.ensures
-      ∙ ap held (to_z-of_z {w = w32} (record { sfits = search rules }))),
-)
-
-pub returns : goal.returns
-returns c =
-    filled_all c.args.plane.now c.args.clamped.now _ c.loop-k.k (omega arith) c.requires
-    c.loop-k.invariant.2
+loop-k-preserved c =
+    one_more c.args.plane.now c.args.clamped.now _ _ _ (omega arith) c.requires c.loop-k.invariant (search rules)

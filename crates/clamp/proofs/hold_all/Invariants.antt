@@ -1,12 +1,7 @@
--- What the loop of `clamp::hold_all` keeps.
-use mathlib.Core.Path.{◌≡◌}
-use Prim.Native.Nat.{◌≤◌, ◌-◌}
-use lib.ListN.{length}
-use Rattle.clamp.proofs.Filling.{Filled}
+-- What the loop of `clamp::hold_all` keeps: the entries before k are held numbers, the others stand as before.
+use Rattle.std.proofs.Common.{◌≡◌, ◌++◌, map, take, drop}
+use Rattle.frame.specs.Calls.{held}
 use Rattle.clamp.proofs.hold_all.Given as goal
 
 abbrev pub invariant-loop-k : goal.invariant-loop-k
-invariant-loop-k l = (l.k ≤ length l.plane) × (length l.clamped ≡ length l.plane) × Filled l.plane l.initial.clamped l.clamped l.k
-
-abbrev pub decreases-loop-k : goal.decreases-loop-k
-decreases-loop-k l = length l.plane - l.k
+invariant-loop-k l = l.clamped ≡ map held (take l.k l.plane) ++ drop l.k l.initial.clamped

@@ -1,7 +1,8 @@
 -- `differences::diagonal_line` meets its contract. What is formed of row i is a `DiagonalRow` of any frame whose rows these are. Assumes nothing.
 use native.Mathlib.Omega.{arith}
+use Rattle.std.proofs.Common.{rules}
 use Rattle.positions.specs.Near.{near_north, near_south}
-use Rattle.half_rows.specs.SiteGradients.{near_record, own_record, north_room, work_most}
+use Rattle.half_rows.specs.SiteGradients.{near_record, north_room, work_most}
 use Rattle.half_rows.specs.GradientRow.{sites_few, sites_inside, other_room, gradients_fit}
 use Rattle.differences.specs.DiagonalRow.{rest_few, rest_room, row_one_off, diagonal_row, corner_values_fit, others_stored}
 use Rattle.differences.proofs.diagonal_line.Goals as goal
@@ -11,14 +12,14 @@ north-requires c =
     let lent = c.requires.some_samples.holds.lent in
     let first = c.first_chroma-c.ensures.0 in
     let sites = c.half_count-count.ensures.0 in
-    north_room _ _ _ 0 _ _ _ _ lent (sites_inside lent first sites) (sites_few lent first sites) c.requires.n_len.0
+    north_room _ _ _ 0 _ _ _ lent (sites_inside lent first sites) (sites_few lent first sites)
 
-pub final_at-requires : goal.final_at-requires
-final_at-requires c =
+pub finals_of-above-requires : goal.finals_of-above-requires
+finals_of-above-requires c =
     let lent = c.requires.some_samples.holds.lent in
     let near = near_north _ _ 1 lent.taken.tall lent.inside in
     let above = c.row_above.ensures.value in
-    near_record lent _ (omega (arith, above)) (omega (arith, above)) above.1
+    let record_near = near_record lent _ (omega (arith, above)) (omega (arith, above)) above.1 in (record_near.1, record_near.2)
 
 pub overflow_sub-w : goal.overflow_sub-w
 overflow_sub-w c =
@@ -28,19 +29,18 @@ pub copy-requires : goal.copy-requires
 copy-requires c =
     let lent = c.requires.some_samples.holds.lent in
     let first = c.first_chroma-c.ensures.0 in
-    let sites = c.half_count-count.ensures.0 in (
-      rest_room lent first sites _ c.row_above.ensures.value.1 c.final_at.ensures,
-      work_most _ _ _ _ _ lent,
-      rest_few lent first sites,
-      c.requires.n_len.1,
-    )
+    let sites = c.half_count-count.ensures.0 in
+    let room = rest_room lent first sites _ c.row_above.ensures.value.1 c.finals_of-above.ensures in
+    let most = work_most _ _ _ _ _ lent in
+    let few = rest_few lent first sites in
+    search rules
 
-pub final_at-requires-2 : goal.final_at-requires-2
-final_at-requires-2 c =
+pub finals_of-below-requires : goal.finals_of-below-requires
+finals_of-below-requires c =
     let lent = c.requires.some_samples.holds.lent in
     let near = near_south _ _ 1 lent.taken.tall lent.inside in
     let below = c.row_below.ensures.value in
-    near_record lent _ (omega (arith, below)) (omega (arith, below)) below.1
+    let record_near = near_record lent _ (omega (arith, below)) (omega (arith, below)) below.1 in (record_near.1, record_near.2)
 
 pub overflow_sub-w-2 : goal.overflow_sub-w-2
 overflow_sub-w-2 c =
@@ -50,46 +50,25 @@ pub copy-requires-2 : goal.copy-requires-2
 copy-requires-2 c =
     let lent = c.requires.some_samples.holds.lent in
     let first = c.first_chroma-c.ensures.0 in
-    let sites = c.half_count-count.ensures.0 in (
-      rest_room lent first sites _ c.row_below.ensures.value.1 c.final_at-2.ensures,
-      work_most _ _ _ _ _ lent,
-      rest_few lent first sites,
-      c.requires.n_len.2,
-    )
-
-pub mirror-requires : goal.mirror-requires
-mirror-requires c =
-    let taken = c.requires.some_samples.holds.lent.taken in
-    (taken.wide, taken.narrow, omega arith, omega arith, c.copy.ensures.size)
-
-pub mirror-requires-2 : goal.mirror-requires-2
-mirror-requires-2 c =
-    let taken = c.requires.some_samples.holds.lent.taken in
-    (taken.wide, taken.narrow, omega arith, omega arith, c.copy-2.ensures.size)
-
-pub record_at-requires : goal.record_at-requires
-record_at-requires c = own_record c.requires.some_samples.holds.lent
-
-pub south_at-requires : goal.south_at-requires
-south_at-requires c = own_record c.requires.some_samples.holds.lent
+    let sites = c.half_count-count.ensures.0 in
+    let room = rest_room lent first sites _ c.row_below.ensures.value.1 c.finals_of-below.ensures in
+    let most = work_most _ _ _ _ _ lent in
+    let few = rest_few lent first sites in
+    search rules
 
 pub corner_means-requires : goal.corner_means-requires
 corner_means-requires c =
     let row = diagonal_row c.requires.some_samples.holds c.first_chroma-c.ensures.0 c.half_count-count.ensures.0
     c.north.ensures c.row_above.ensures.value.0 c.row_below.ensures.value.0
-    (row_one_off c.final_at.ensures c.copy.ensures c.mirror.ensures)
-    (row_one_off c.final_at-2.ensures c.copy-2.ensures c.mirror-2.ensures) in
+    (row_one_off c.finals_of-above.ensures c.copy.ensures c.mirror.ensures)
+    (row_one_off c.finals_of-below.ensures c.copy-2.ensures c.mirror-2.ensures) in
     record {
       c_bound = (
         c.first_chroma-c.ensures.1,
         gradients_fit row.gradient_row _ _ c.record_at.ensures.0 c.south_at.ensures,
-        c.requires.n_len.3,
       );
       values_fit = corner_values_fit row;
     }
-
-pub other_at-requires : goal.other_at-requires
-other_at-requires c = own_record c.requires.some_samples.holds.lent
 
 pub store-requires : goal.store-requires
 store-requires c =
@@ -104,9 +83,8 @@ returns c = record {
     row = λ zs reads. others_stored
         (diagonal_row reads c.first_chroma-c.ensures.0 c.half_count-count.ensures.0 c.north.ensures
         c.row_above.ensures.value.0 c.row_below.ensures.value.0
-        (row_one_off c.final_at.ensures c.copy.ensures c.mirror.ensures)
-        (row_one_off c.final_at-2.ensures c.copy-2.ensures c.mirror-2.ensures))
+        (row_one_off c.finals_of-above.ensures c.copy.ensures c.mirror.ensures)
+        (row_one_off c.finals_of-below.ensures c.copy-2.ensures c.mirror-2.ensures))
         _ _ c.record_at.ensures.0 c.south_at.ensures _ c.corner_means.ensures c.other_at.ensures c.store.ensures;
   };
-  n_len_2 = (c.north.ensures.size, c.mirror.ensures.size, c.mirror-2.ensures.size, c.corner_means.ensures.size);
 }

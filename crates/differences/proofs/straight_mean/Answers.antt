@@ -1,7 +1,8 @@
 -- `differences::straight_mean` meets its contract. Assumes nothing.
 use mathlib.Core.Path.{◌≡◌, ◌∙◌}
 use lib.Dec.{lit≤}
-use Rattle.toolkit.specs.Bounds.{fits, val}
+use Rattle.std.proofs.Common.{rules}
+use Rattle.toolkit.specs.Bounds.{val}
 use Rattle.toolkit.specs.BoundRules.{vals}
 use Rattle.method.specs.Four.{same_four}
 use Rattle.method.proofs.Sizes.{weaker}
@@ -16,18 +17,14 @@ values_are : (c : After-values-v) →
     c.values-v.result ≡ straight_read a.l.now a.green.now a.below a.above a.k
 values_are c =
     c.values-v.ensures
-    ∙ same_four (as_read c.values-arg-1.given) (as_read c.values-arg-2-1.given)
-    (as_read c.values-arg-3-1.given) (as_read c.values-arg-4-1.given)
+    ∙ same_four (as_read (search rules)) (as_read (search rules)) (as_read (search rules)) (as_read (search rules))
 
 pub lifted_mean-requires : goal.lifted_mean-requires
 lifted_mean-requires c =
     lifted_mean_fits 8192 40920 (rw (values_are (goal.at.lifted_mean-requires c).After-values-v) (weaker (lit≤ tt) (c.requires.values_fit.each _ c.requires.k_lt_count.0)))
-    (rw c.four.ensures (c.requires.gradients_fit.each _ c.requires.k_lt_count.0)) tt
-
-pub overflow_cast-result : goal.overflow_cast-result
-overflow_cast-result c = let h = c.lifted_mean.ensures.1 in fits (search vals depth 10) tt
+    (rw c.at.ensures (c.requires.gradients_fit.each _ c.requires.k_lt_count.0)) tt
 
 pub returns : goal.returns
 returns c =
     let h = c.lifted_mean.ensures.1 in
-    val (search vals depth 10) tt ∙ (rw (values_are (goal.at.returns c).After-values-v, c.four.ensures) at c.lifted_mean.ensures.0)
+    val (search vals depth 10) tt ∙ (rw (values_are (goal.at.returns c).After-values-v, c.at.ensures) at c.lifted_mean.ensures.0)

@@ -1,12 +1,9 @@
 -- What the loop of `differences::straight_means` keeps.
-use Prim.Native.Nat.{ℕ, ◌+◌, ◌-◌, ◌≤◌}
+use Prim.Native.Nat.{ℕ, ◌+◌, ◌-◌}
 use lib.IntN.{pos}
 use Rattle.toolkit.specs.Entries.{Entries}
 use Rattle.differences.specs.Rows.{straight_mean_read}
 use Rattle.differences.proofs.straight_means.Given as goal
 
 abbrev pub invariant-loop-k : goal.invariant-loop-k
-invariant-loop-k l = (l.k ≤ l.count) × Entries (pos 0) 2064 4 (l.k + 4) (λ (x : ℕ). straight_mean_read l.work l.east l.south l.n l.l l.green l.below l.above (x - 4)) l.m
-
-abbrev pub decreases-loop-k : goal.decreases-loop-k
-decreases-loop-k l = l.count - l.k
+invariant-loop-k l = Entries (pos 0) 2064 4 (l.k + 4) (λ (x : ℕ). straight_mean_read l.gradients.work.now l.gradients.east l.gradients.south l.gradients.north.now l.l l.green l.below l.above (x - 4)) l.m

@@ -1,14 +1,8 @@
 -- `east_rows::gradient` meets its contract. Assumes nothing.
-use mathlib.Core.Path.{◌∙◌, ap}
-use Prim.Native.Nat.{ℕ, ◌+◌, ◌*◌}
-use lib.IntN.{pos}
-use mir.Facts.{to_z_pos}
-use mir.Syntax.{w32}
-use native.Mathlib.Omega.{arith}
+use Rattle.std.proofs.Common.{arith}
+use Rattle.std.proofs.lemmas.Int.{ints}
+use Rattle.east_rows.specs.SumLaws.{apart_naturals}
 use Rattle.east_rows.proofs.gradient.Goals as goal
 
 pub returns : goal.returns
-returns c =
-    let a = c.args in
-    to_z_pos w32 (omega (arith, c.distance.ensures.1))
-    ∙ ap (λ (d : ℕ). pos (8 * d + 2 * a.here + a.before + a.after)) c.distance.ensures.0
+returns c = omega (arith, ints, apart_naturals c.args.x c.args.y)

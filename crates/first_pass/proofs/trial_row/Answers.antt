@@ -12,13 +12,12 @@ loop-k-preserved c =
     let y = get_or a.b.now (k + 4) (pos 0) in
     let x_read : to_z w32 (of_z w32 x) ≡ x = as_read (search rules) in
     let y_read : to_z w32 (of_z w32 y) ≡ y = as_read (search rules) in
-    let told = rw (c.four-g.ensures, x_read, y_read) at c.try_site-trial.ensures in
+    let told = rw (c.at-g.ensures, x_read, y_read) at c.try_site-trial.ensures in
     let r = c.try_site-trial.result in
     let diagonal_read : to_z w32 (of_z w32 r.diagonal) ≡ r.diagonal = as_read (search rules) in
     let vertical_read : to_z w32 (of_z w32 r.vertical) ≡ r.vertical = as_read (search rules) in
     let before = c.loop-k.invariant in (
-      omega arith,
-      wrote_next before.1 (omega arith) (diagonal_read ∙ told.0),
-      wrote_next before.2 (omega arith) (vertical_read ∙ told.1),
-      wrote_next before.3 (omega arith) told.2,
+      wrote_next before.0 (omega arith) (diagonal_read ∙ told.0),
+      wrote_next before.1 (omega arith) (vertical_read ∙ told.1),
+      wrote_next before.2 (omega arith) told.2,
     )

@@ -5,13 +5,10 @@ use Rattle.method.specs.Four.{directions, sizes}
 use Rattle.method.specs.Green.{vertical, diagonal}
 use Rattle.records.specs.Quantities.{first_code}
 use Rattle.half_rows.specs.Reading.{as_read}
-use Rattle.first_pass.specs.Outcomes.{sum_fits, half_read}
+use Rattle.first_pass.specs.Outcomes.{half_read}
 use Rattle.first_pass.specs.Trials.{settled_is}
 use mir.Syntax.{w32}
 use Rattle.first_pass.proofs.try_site.Goals as goal
-
-pub overflow_add-a : goal.overflow_add-a
-overflow_add-a c = sum_fits c.args.a c.args.b c.requires.1 c.requires.2
 
 pub returns : goal.returns
 returns c =

@@ -1,6 +1,5 @@
 -- `first_stage::first_line` meets its contract. What the first two lines store is what the third asks (`trials_read`). Assumes nothing.
 use native.Mathlib.Omega.{arith}
-use Rattle.half_rows.specs.SiteGradients.{own_record}
 use Rattle.mosaic_rows.specs.RingRowLaws.{near_rows}
 use Rattle.first_stage.specs.RingReads.{seven_at, east_reads}
 use Rattle.first_stage.specs.GradientRows.{trials_read}
@@ -17,26 +16,31 @@ seven_rows-at-requires c =
 pub top_line-requires : goal.top_line-requires
 top_line-requires c =
     let some = c.requires.some_samples in
-    let room = c.requires.first_room in record { some_samples = record { samples = some.samples; holds = some.holds.mosaic }; c_value = c.first_chroma-c.ensures.0; v_len = (room.v_size, room.gradients_size, some.holds.reads.lent.tops_size) }
+    record {
+      some_samples = record { samples = some.samples; holds = some.holds.mosaic };
+      c_value = c.first_chroma-c.ensures.0;
+      tops_len = some.holds.reads.lent.tops_size;
+    }
 
 pub gradient_line-requires : goal.gradient_line-requires
 gradient_line-requires c =
     let some = c.requires.some_samples in
-    let lent = some.holds.reads.lent in record { some_samples = record { samples = some.samples; holds = east_reads some.holds c.seven_rows-at.ensures }; c_value = (c.first_chroma-c.ensures.0, lent.work_size, (own_record lent).2); v_len = c.top_line.ensures.v_len_2 }
+    let lent = some.holds.reads.lent in record {
+      some_samples = record { samples = some.samples; holds = east_reads some.holds c.seven_rows-at.ensures };
+      c_value = (c.first_chroma-c.ensures.0, lent.work_size);
+    }
 
 pub trial_line-requires : goal.trial_line-requires
 trial_line-requires c =
     let some = c.requires.some_samples in
     let lent = some.holds in
-    let entries = c.seven_rows-at.ensures in
-    let room = c.requires.first_room in record {
+    let entries = c.seven_rows-at.ensures in record {
       some_samples = record {
         samples = some.samples;
         holds = trials_read lent.reads c.first_chroma-c.ensures.0 (seven_at lent.mosaic entries (omega arith) (omega arith))
             (c.top_line.ensures.tops_formed.row some.samples lent.mosaic)
             (c.gradient_line.ensures.gradients_formed.row some.samples (east_reads lent entries));
       };
-      n_len = (room.n_size, room.a_size, room.b_size);
       diagonals_len = c.requires.diagonals_len;
     }
 
@@ -58,12 +62,5 @@ returns c =
               verticals_stored = trial.trials_stored_2.row zs reads;
               codes_stored = trial.codes_formed.row zs reads;
             };
-      };
-      first_room_2 = record {
-        v_size = gradient.v_len_2.0;
-        gradients_size = gradient.v_len_2.1;
-        n_size = trial.n_len_2.0;
-        a_size = trial.n_len_2.1;
-        b_size = trial.n_len_2.2;
       };
     }

@@ -12,11 +12,9 @@ south_line-requires c =
     let reads = some.holds in
     record {
       samples = some.samples;
-      row = args.i + 2;
-      reads = reads_two_down args.i reads.taken c.requires.c_value.0 reads.seven;
-      v_size = c.requires.v_len.0;
-      gradients_size = c.east_line.ensures.gradients_len_2;
-      room = south_room (frame args.shape some.samples) args.i _ reads.taken reads.inside c.requires.c_value.1
+      row = args.row.index + 2;
+      reads = reads_two_down args.row.index reads.taken c.requires.c_value.0 reads.seven;
+      room = south_room (frame args.row.shape some.samples) args.row.index _ reads.taken reads.inside c.requires.c_value.1
           (c.east_line.ensures.east_stores.row some.samples reads) c.south_at.ensures;
     }
 
@@ -25,9 +23,8 @@ returns c =
     let args = c.args in
     let south = c.south_line.ensures in record {
       gradients_formed = record {
-        row = λ zs reads. gradients_stored (frame args.shape zs) args.i _ (c.east_line.ensures.east_stores.row zs reads)
-            (south.south_stores.row zs (args.i + 2) (reads_two_down args.i reads.taken c.requires.c_value.0 reads.seven))
+        row = λ zs reads. gradients_stored (frame args.row.shape zs) args.row.index _ (c.east_line.ensures.east_stores.row zs reads)
+            (south.south_stores.row zs (args.row.index + 2) (reads_two_down args.row.index reads.taken c.requires.c_value.0 reads.seven))
             c.south_at.ensures;
       };
-      v_len_2 = south.v_len;
     }

@@ -1,5 +1,4 @@
 -- `first_stage::top_line` meets its contract. Where i is 2 or more, nothing is stored. Assumes nothing.
-use mathlib.Core.Path.{refl}
 use native.Mathlib.Omega.{arith}
 use Rattle.mosaic_rows.specs.RingRowLaws.{near_rows}
 use Rattle.first_stage.specs.RingReads.{top_reads}
@@ -16,14 +15,11 @@ seven_rows-at-requires c =
 pub south_line-requires : goal.south_line-requires
 south_line-requires c =
     let some = c.requires.some_samples in
-    let size = c.requires.v_len in
     record {
       samples = some.samples;
-      row = c.args.i;
+      row = c.args.row.index;
       reads = top_reads some.holds c.requires.c_value c.seven_rows-at.ensures;
-      v_size = size.0;
-      gradients_size = size.1;
-      room = omega (arith, size.2, some.holds.taken.narrow, c.if-i-lt2.true);
+      room = omega (arith, c.requires.tops_len, some.holds.taken.narrow, c.if-i-lt2.true);
     }
 
 pub returns-then-i-lt2 : goal.returns-then-i-lt2
@@ -31,13 +27,8 @@ returns-then-i-lt2 c =
     let stored = c.south_line.ensures in record {
       tops_formed = record {
         row = λ zs lent. record {
-          here = λ h. stored.south_stores.row zs c.args.i (top_reads lent c.requires.c_value c.seven_rows-at.ensures);
+          here = λ h. stored.south_stores.row zs c.args.row.index (top_reads lent c.requires.c_value c.seven_rows-at.ensures);
           late = λ h. absurd (omega (arith, c.if-i-lt2.true));
         };
       };
-      v_len_2 = stored.v_len;
     }
-
-pub returns-else-i-lt2 : goal.returns-else-i-lt2
-returns-else-i-lt2 c =
-    let size = c.requires.v_len in record { tops_formed = record { row = λ zs lent. record { here = λ h. absurd (omega (arith, c.if-i-lt2.false)); late = λ h. refl } }; v_len_2 = (size.0, size.1) }

@@ -14,23 +14,17 @@ half_count-count-requires c =
     let r = c.requires.some_samples.holds in
     (r.lent.taken.wide, r.lent.taken.narrow, start_low _ _ _ _ _ _ _ _ r)
 
-pub overflow_mul-to : goal.overflow_mul-to
-overflow_mul-to c =
-    let lent = c.requires.some_samples.holds.lent in
-    let row = plane_row _ _ 0 lent.taken lent.inside (omega arith) in
-    omega arith
-
 pub line_row-requires : goal.line_row-requires
 line_row-requires c =
     let r = c.requires.some_samples.holds in
-    let count = c.half_count-count.ensures in record { c_bound = (start_low _ _ _ _ _ _ _ _ r, count.2, c.requires.n_len.1, c.requires.n_len.2); small_rows = lines_small _ _ _ _ _ _ _ _ _ r count.0 }
+    let count = c.half_count-count.ensures in record { c_bound = (start_low _ _ _ _ _ _ _ _ r, count.2); small_rows = lines_small _ _ _ _ _ _ _ _ _ r count.0 }
 
 pub north-requires : goal.north-requires
 north-requires c =
     let args = c.args in
     let count = c.half_count-count.ensures in
-    north_room (frame args.shape c.requires.some_samples.samples) args.i args.base 0 _ _ _ _ c.requires.some_samples.holds.lent
-    (omega (arith, count.0, count_high args.shape.width args.c)) count.2 c.requires.n_len.0
+    north_room (frame args.row.shape c.requires.some_samples.samples) args.row.index args.row.base 0 _ _ _ c.requires.some_samples.holds.lent
+    (omega (arith, count.0, count_high args.row.shape.width args.c)) count.2
 
 pub trial_row-requires : goal.trial_row-requires
 trial_row-requires c =
@@ -39,10 +33,10 @@ trial_row-requires c =
     let count = c.half_count-count.ensures.0 in
     let lines = c.line_row.ensures in
     let planes = c.requires.diagonals_len in
-    let room = plane_row (frame args.shape c.requires.some_samples.samples) args.i c.half_count-count.result r.lent.taken r.lent.inside
-    (omega (arith, count, count_high args.shape.width args.c)) in record {
-      trial_reads = trial_reads (frame args.shape c.requires.some_samples.samples) args.i args.base args.c _ _ _ _ _ _ _ _ _ _ r count
-          c.record_at-east.ensures.0 c.south_at-south.ensures c.north.ensures lines.entries lines.entries_2;
+    let room = plane_row (frame args.row.shape c.requires.some_samples.samples) args.row.index c.half_count-count.result r.lent.taken r.lent.inside
+    (omega (arith, count, count_high args.row.shape.width args.c)) in record {
+      trial_reads = trial_reads (frame args.row.shape c.requires.some_samples.samples) args.row.index args.row.base args.c _ _ _ _ _ _ _ _ _ _ r count
+          c.record_at.ensures.0 c.south_at.ensures c.north.ensures lines.entries lines.entries_2;
       count_in_bounds = (omega arith, omega arith, omega arith, omega arith);
     }
 
@@ -50,22 +44,21 @@ pub returns : goal.returns
 returns c =
     let args = c.args in
     let count = c.half_count-count.ensures.0 in
-    let east = c.record_at-east.ensures.0 in
-    let south = c.south_at-south.ensures in
+    let east = c.record_at.ensures.0 in
+    let south = c.south_at.ensures in
     let lines = c.line_row.ensures in
     let norths = c.north.ensures in
     let stored = c.trial_row.ensures in record {
       trials_stored = record {
-        row = λ zs r. trials_stored (frame args.shape zs) args.i args.base args.c _ _ _ _ _ _ _ _ _ _ r count east south norths
+        row = λ zs r. trials_stored (frame args.row.shape zs) args.row.index args.row.base args.c _ _ _ _ _ _ _ _ _ _ r count east south norths
             lines.entries lines.entries_2 diagonal stored.wrote;
       };
       trials_stored_2 = record {
-        row = λ zs r. trials_stored (frame args.shape zs) args.i args.base args.c _ _ _ _ _ _ _ _ _ _ r count east south norths
+        row = λ zs r. trials_stored (frame args.row.shape zs) args.row.index args.row.base args.c _ _ _ _ _ _ _ _ _ _ r count east south norths
             lines.entries lines.entries_2 vertical stored.wrote_2;
       };
       codes_formed = record {
-        row = λ zs r. codes_stored (frame args.shape zs) args.i args.base args.c _ _ _ _ _ _ _ _ _ _ r count east south norths
+        row = λ zs r. codes_stored (frame args.row.shape zs) args.row.index args.row.base args.c _ _ _ _ _ _ _ _ _ _ r count east south norths
             lines.entries lines.entries_2 stored.wrote_3;
       };
-      n_len_2 = (norths.size, lines.entries.size, lines.entries_2.size);
     }

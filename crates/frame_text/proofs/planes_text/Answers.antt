@@ -1,20 +1,16 @@
 -- `frame_text::planes_text` meets its contract. Assumes nothing.
+use Rattle.std.proofs.Common.{◌∙◌, arith}
 use Rattle.printing.specs.Printing.{heading}
-use Rattle.frame_text.specs.Composing.{lines_room, planes_put}
+use Rattle.frame_text.specs.PlanesText.{text_of_planes}
+use Rattle.frame_text.specs.Composing.{lines_room}
 use Rattle.frame_text.proofs.planes_text.Goals as goal
 
-pub lines-requires : goal.lines-requires
-unfolding heading
-lines-requires c =
-    let word = c.bytes-next in record {
-      width_nonzero = c.requires.width_nonzero;
-      clamped_numbers = c.requires.clamped_numbers;
-      blue_in_bounds = lines_room _ _ _ _ c.requires.clamped_numbers.0 c.requires.clamped_numbers.1 c.requires.clamped_numbers.2 c.requires.red_len_bound.0 _ c.requires.red_len_bound.1 _ _
-          word.ensures word.auto.text;
-    }
+pub lines-requires-clause-blue_in_bounds : goal.lines-requires-clause-blue_in_bounds
+lines-requires-clause-blue_in_bounds c =
+    let clamped = c.requires.clamped_numbers in
+    rw (c.push_str.ensures.bytes, c.new-text.ensures)
+    (omega (arith, lines_room c.args.width _ _ _ clamped.0 clamped.1 clamped.2 c.requires.red_len_bound))
 
 pub returns : goal.returns
-unfolding heading
-returns c =
-    planes_put _ _ _ _ c.requires.clamped_numbers.0 c.requires.clamped_numbers.1 c.requires.clamped_numbers.2 c.requires.red_len_bound.0 _ c.requires.red_len_bound.1 _ _ _ _
-    c.bytes-next.ensures c.lines.ensures
+unfolding text_of_planes heading
+returns c = c.lines.ensures ∙ rw (c.push_str.ensures.bytes, c.new-text.ensures)

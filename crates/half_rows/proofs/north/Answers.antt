@@ -10,32 +10,27 @@ use Rattle.records.specs.Layout.{record_size, south_part}
 use Rattle.half_rows.specs.Norths.{north_of_tops, north_of_work, south_inside}
 use Rattle.half_rows.proofs.north.Goals as goal
 
-pub overflow_add-south_at : goal.overflow_add-south_at
-overflow_add-south_at c =
-    omega (arith, c.south_at.ensures, south_inside _ _ _ _ _ _ _ _ c.requires c.if-i-lt2.false, c.requires.work_most)
-
 pub copy-requires-else-i-lt2 : goal.copy-requires-else-i-lt2
 copy-requires-else-i-lt2 c =
-    let room = c.requires in (
-      omega (arith, c.south_at.ensures, south_inside _ _ _ _ _ _ _ _ room c.if-i-lt2.false),
-      room.work_most,
-      room.few,
-      room.row_size,
-    )
+    let room = c.requires in
+    (omega (arith, c.south_at.ensures, south_inside _ _ _ _ _ _ _ room c.if-i-lt2.false), room.work_most, room.few)
+
+pub overflow_add-south_at : goal.overflow_add-south_at
+overflow_add-south_at c = omega (arith, c.south_at.ensures, south_inside _ _ _ _ _ _ _ c.requires c.if-i-lt2.false)
 
 pub returns-then-i-lt2 : goal.returns-then-i-lt2
 returns-then-i-lt2 c =
     let a = c.args in
     entries_as c.copy.ensures (omega arith) (omega arith) (λ x l h.
-    let e : a.i * 4112 + a.at + (x - 4) ≡ a.i * 4112 + (a.at + (x - 4)) = omega arith in
+    let e : a.row.index * 4112 + a.at + (x - 4) ≡ a.row.index * 4112 + (a.at + (x - 4)) = omega arith in
     ap (λ (k : ℕ). get_or a.tops.now k (pos 0)) e
-    ∙ sym (north_of_tops a.tops.now a.work.now a.w a.i (a.at + (x - 4)) c.if-i-lt2.true))
+    ∙ sym (north_of_tops a.tops.now a.work.now a.row.shape.width a.row.index (a.at + (x - 4)) c.if-i-lt2.true))
 
 pub returns-else-i-lt2 : goal.returns-else-i-lt2
 returns-else-i-lt2 c =
     let a = c.args in
     entries_as c.copy-else-i-lt2.ensures (omega arith) (omega arith) (λ x l h.
-    let e : c.south_at.result + a.at + (x - 4) ≡ place_in_ring (a.i - 2) * record_size a.w + south_part a.w + (a.at + (x - 4)) =
+    let e : c.south_at.result + a.at + (x - 4) ≡ place_in_ring (a.row.index - 2) * record_size a.row.shape.width + south_part a.row.shape.width + (a.at + (x - 4)) =
     omega (arith, c.south_at.ensures) in
     ap (λ (k : ℕ). get_or a.work.now k (pos 0)) e
-    ∙ sym (north_of_work a.tops.now a.work.now a.w a.i (a.at + (x - 4)) c.if-i-lt2.false))
+    ∙ sym (north_of_work a.tops.now a.work.now a.row.shape.width a.row.index (a.at + (x - 4)) c.if-i-lt2.false))

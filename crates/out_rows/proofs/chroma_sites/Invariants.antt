@@ -1,5 +1,5 @@
 -- What the loop of `out_rows::chroma_sites` keeps.
-use Prim.Native.Nat.{ℕ, ◌+◌, ◌-◌, ◌≤◌}
+use Prim.Native.Nat.{ℕ}
 use lib.IntN.{pos, ◌+ℤ◌, ◌-ℤ◌, ◌*ℤ◌}
 use lib.ListN.{get_or}
 use Rattle.toolkit.specs.Entries.{Entries}
@@ -8,9 +8,5 @@ use Rattle.out_rows.proofs.chroma_sites.Given as goal
 
 abbrev pub invariant-loop-k : goal.invariant-loop-k
 invariant-loop-k l =
-    (4 ≤ l.k) × (l.k ≤ l.count + 4)
-    × Entries (pos 0) 2064 4 l.k (λ (x : ℕ). final_round (get_or l.own x (pos 0) +ℤ pos 4 *ℤ get_or l.z x (pos 0)) -ℤ l.black) l.g
+    Entries (pos 0) 2064 4 l.k (λ (x : ℕ). final_round (get_or l.own x (pos 0) +ℤ pos 4 *ℤ get_or l.z x (pos 0)) -ℤ l.black) l.g
     × Entries (pos 0) 2064 4 l.k (λ (x : ℕ). final_round (get_or l.own x (pos 0) +ℤ pos 4 *ℤ get_or l.z x (pos 0) -ℤ get_or l.other x (pos 0)) -ℤ l.black) l.y
-
-abbrev pub decreases-loop-k : goal.decreases-loop-k
-decreases-loop-k l = l.count + 4 - l.k

@@ -1,5 +1,5 @@
 -- What the loop of `out_rows::direct_means` keeps.
-use Prim.Native.Nat.{ℕ, ◌+◌, ◌-◌, ◌≤◌}
+use Prim.Native.Nat.{ℕ, ◌+◌, ◌-◌}
 use lib.IntN.{pos}
 use Rattle.toolkit.specs.Entries.{Entries}
 use Rattle.out_rows.specs.DirectMeans.{own_mean, other_mean}
@@ -7,9 +7,5 @@ use Rattle.out_rows.proofs.direct_means.Given as goal
 
 abbrev pub invariant-loop-k : goal.invariant-loop-k
 invariant-loop-k l =
-    (l.k ≤ l.rest)
-    × Entries (pos 0) 2064 4 (l.k + 4) (λ (j : ℕ). own_mean l.p l.work l.n l.own (j - 4)) l.x
-    × Entries (pos 0) 2064 4 (l.k + 4) (λ (j : ℕ). other_mean l.p l.work l.n l.other (j - 4)) l.y
-
-abbrev pub decreases-loop-k : goal.decreases-loop-k
-decreases-loop-k l = l.rest - l.k
+    Entries (pos 0) 2064 4 (l.k + 4) (λ (j : ℕ). own_mean l.fn.p l.work l.n l.own (j - 4)) l.x
+    × Entries (pos 0) 2064 4 (l.k + 4) (λ (j : ℕ). other_mean l.fn.p l.work l.n l.other (j - 4)) l.y

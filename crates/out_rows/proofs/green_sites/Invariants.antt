@@ -1,5 +1,5 @@
 -- What the loop of `out_rows::green_sites` keeps.
-use Prim.Native.Nat.{ℕ, ◌+◌, ◌-◌, ◌≤◌}
+use Prim.Native.Nat.{ℕ, ◌+◌}
 use lib.IntN.{pos, ◌-ℤ◌, ◌*ℤ◌}
 use lib.ListN.{get_or}
 use Rattle.toolkit.specs.Entries.{Entries}
@@ -8,9 +8,5 @@ use Rattle.out_rows.proofs.green_sites.Given as goal
 
 abbrev pub invariant-loop-k : goal.invariant-loop-k
 invariant-loop-k l =
-    (4 ≤ l.k) × (l.k ≤ l.count + 4)
-    × Entries (pos 0) 2064 4 l.k (λ (x : ℕ). final_round (pos 4 *ℤ get_or l.z x (pos 0) -ℤ get_or l.initial.m x (pos 0)) -ℤ l.black) l.m
+    Entries (pos 0) 2064 4 l.k (λ (x : ℕ). final_round (pos 4 *ℤ get_or l.z x (pos 0) -ℤ get_or l.initial.m x (pos 0)) -ℤ l.black) l.m
     × Entries (pos 0) 2064 l.k (l.count + 4) (λ (x : ℕ). get_or l.initial.m x (pos 0)) l.m
-
-abbrev pub decreases-loop-k : goal.decreases-loop-k
-decreases-loop-k l = l.count + 4 - l.k

@@ -1,12 +1,9 @@
 -- What the loop of `out_rows::samples` keeps.
-use Prim.Native.Nat.{ℕ, ◌+◌, ◌*◌, ◌-◌, ◌≤◌}
+use Prim.Native.Nat.{ℕ, ◌+◌, ◌*◌, ◌-◌}
 use lib.IntN.{pos}
 use lib.ListN.{get_or}
 use Rattle.toolkit.specs.Entries.{Entries}
 use Rattle.out_rows.proofs.samples.Given as goal
 
 abbrev pub invariant-loop-k : goal.invariant-loop-k
-invariant-loop-k l = (l.k ≤ l.count) × Entries (pos 0) 2064 4 (l.k + 4) (λ (x : ℕ). pos (get_or l.rows (l.at + (l.c + 2 * (x - 4) + 8)) 0)) l.dst
-
-abbrev pub decreases-loop-k : goal.decreases-loop-k
-decreases-loop-k l = l.count - l.k
+invariant-loop-k l = Entries (pos 0) 2064 4 (l.k + 4) (λ (x : ℕ). pos (get_or l.rows (l.at + (l.c + 2 * (x - 4) + 8)) 0)) l.dst

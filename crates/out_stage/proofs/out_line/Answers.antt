@@ -1,21 +1,22 @@
 -- `out_stage::out_line` meets its contract. Assumes nothing.
-use mathlib.Core.Path.{◌≡◌, ◌∙◌}
+use mathlib.Core.Path.{◌≡◌}
 use lib.IntN.{pos}
 use mir.Syntax.{w32}
-use mir.Val.{to_z, of_z}
-use Rattle.half_rows.specs.Reading.{as_read, size_read}
-use Rattle.half_rows.specs.SiteGradients.{own_record}
+use mir.Val.{to_z}
+use mir.Facts.{to_z_pos}
+use native.Mathlib.Omega.{arith}
+use Rattle.half_rows.specs.Reading.{size_read}
 use Rattle.out_rows.specs.RowPlaces.{RowOf}
 use Rattle.out_stage.specs.RowOutputs.{outputs_read}
 use Rattle.out_stage.specs.PlaneRows.{out_stored}
 use Rattle.out_stage.proofs.out_line.Goals as goal
-use Rattle.out_stage.proofs.out_line.Goals.{After-signed-b, Start}
+use Rattle.out_stage.proofs.out_line.Goals.{Start}
 
 -- the black level as it is passed on
-level_is : (c : After-signed-b) → to_z w32 (of_z w32 c.signed-b.result) ≡ pos c.args.black
-level_is c = as_read c.signed-b.type_inv ∙ c.signed-b.ensures
+level_is : (start : Start) → to_z w32 start.args.black ≡ pos start.args.black
+level_is start = to_z_pos w32 (omega arith)
 
-row_of : (start : Start) → RowOf start.args.shape start.args.i
+row_of : (start : Start) → RowOf start.args.row.shape start.args.row.index
 row_of start =
     let lent = start.requires.some_samples.holds.reads.reads.lent in
     let t = lent.taken in
@@ -24,27 +25,15 @@ row_of start =
 pub row_places-p-requires : goal.row_places-p-requires
 row_places-p-requires c = (row_of (goal.at.row_places-p-requires c).Start, c.requires.some_samples.holds.reads.reads.lent.round)
 
-pub row_at-at-requires : goal.row_at-at-requires
-row_at-at-requires c = let own = own_record c.requires.some_samples.holds.reads.reads.lent in (own.1, own.2)
-
-pub signed-b-requires : goal.signed-b-requires
-signed-b-requires c = c.requires.red_len.3
-
-pub row_differences-requires : goal.row_differences-requires
-row_differences-requires c =
-    let l = c.requires.n_len in record { some_samples = record { samples = c.requires.some_samples.samples; holds = c.requires.some_samples.holds.reads }; placed = c.row_places-p.ensures; n_len = (l.0, l.1, l.2, l.7, l.8) }
-
 pub row_outputs-requires : goal.row_outputs-requires
 row_outputs-requires c =
     let zs = c.requires.some_samples.samples in
-    let lent = c.requires.some_samples.holds in
-    let l = c.requires.n_len in record {
+    let lent = c.requires.some_samples.holds in record {
       some_samples = record {
         samples = zs;
         holds = outputs_read lent c.row_at-at.ensures.0 (c.row_differences.ensures.differences_formed.row zs lent.reads);
       };
-      placed = (c.row_places-p.ensures, c.row_at-at.ensures.1, size_read _ (level_is (goal.at.row_outputs-requires c).After-signed-b) c.requires.red_len.3);
-      zx_len = (l.3, l.4, l.5, l.6);
+      placed = (c.row_places-p.ensures, c.row_at-at.ensures.1, size_read _ (level_is (goal.at.row_outputs-requires c).Start) c.requires.red_len.3);
     }
 
 pub store_outputs-requires : goal.store_outputs-requires
@@ -59,27 +48,13 @@ store_outputs-requires c =
 
 pub returns : goal.returns
 returns c =
-    let zs = c.requires.some_samples.samples in
-    let lent = c.requires.some_samples.holds in
     let place = c.row_at-at.ensures.0 in
-    let level = level_is (goal.at.returns c).After-signed-b in
+    let level = level_is (goal.at.returns c).Start in
     let formed = c.row_differences.ensures.differences_formed in
     let made = c.row_outputs.ensures in
     let stored = c.store_outputs.ensures in
-    let d = formed.row zs lent.reads in
-    let o = made.row c.args.black zs level (outputs_read lent place d) in record {
+    record {
       out_stores = out_stored formed place level made stored.plane_row;
       out_stores_2 = out_stored formed place level made stored.plane_row_2;
       out_stores_3 = out_stored formed place level made stored.plane_row_3;
-      n_len_2 = (
-        c.row_differences.ensures.n_len_2,
-        d.chroma_own.size,
-        d.chroma_other.size,
-        o.chroma_own.size,
-        o.green_green.size,
-        o.chroma_green.size,
-        o.chroma_other.size,
-        o.green_own.size,
-        o.green_other.size,
-      );
     }

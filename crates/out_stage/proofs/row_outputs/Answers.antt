@@ -18,7 +18,6 @@ samples-requires c =
       start_small a.shape zs a.i a.p placed,
       count_few a.shape zs a.i a.p placed c.requires.some_samples.holds.taken.narrow,
       c.requires.placed.1,
-      c.requires.zx_len.0,
     )
 
 pub overflow_sub-start : goal.overflow_sub-start
@@ -32,13 +31,12 @@ samples-requires-2 c =
       omega arith,
       rest_few a.shape c.requires.some_samples.samples a.i a.p c.requires.placed.0 c.requires.some_samples.holds.taken.narrow,
       c.requires.placed.1,
-      c.requires.zx_len.1,
     )
 
 -- what the loops ask of the half rows, once the samples are there
 bounded : (c : After-samples-2) → let a = c.args in
-    RowBounded a.p.count a.p.rest a.own.now a.other.now c.samples.new.dst
-    c.samples-2.new.dst a.x.now a.y.now
+    RowBounded a.p.count a.p.rest a.scratch.now.own a.scratch.now.other c.samples.new.dst
+    c.samples-2.new.dst a.scratch.now.trials.across a.scratch.now.trials.vertical
 bounded c =
     let a = c.args in
     let zs = c.requires.some_samples.samples in
@@ -54,8 +52,6 @@ chroma_sites-requires c =
     let size = bounded (goal.at.chroma_sites-requires c).After-samples-2 in record {
       count_bound = (
         count_few a.shape c.requires.some_samples.samples a.i a.p c.requires.placed.0 c.requires.some_samples.holds.taken.narrow,
-        c.requires.zx_len.2,
-        c.requires.zx_len.3,
         small (search vals depth 10) tt,
       );
       sized = (size.own_small, size.other_small, size.zx_small);
@@ -67,7 +63,6 @@ green_sites-requires c =
     let level = c.requires.placed.2 in
     let size = bounded (goal.at.green_sites-requires c).After-samples-2 in (
       rest_few a.shape c.requires.some_samples.samples a.i a.p c.requires.placed.0 c.requires.some_samples.holds.taken.narrow,
-      c.requires.some_samples.holds.differences.green_own.size,
       size.zg_small,
       size.x_small,
       small (search vals depth 10) tt,
@@ -79,7 +74,6 @@ green_sites-requires-2 c =
     let level = c.requires.placed.2 in
     let size = bounded (goal.at.green_sites-requires-2 c).After-samples-2 in (
       rest_few a.shape c.requires.some_samples.samples a.i a.p c.requires.placed.0 c.requires.some_samples.holds.taken.narrow,
-      c.requires.some_samples.holds.differences.green_other.size,
       size.zg_small,
       size.y_small,
       small (search vals depth 10) tt,
@@ -90,7 +84,6 @@ measured-requires c =
     let a = c.args in
     let level = c.requires.placed.2 in (
       count_few a.shape c.requires.some_samples.samples a.i a.p c.requires.placed.0 c.requires.some_samples.holds.taken.narrow,
-      c.samples.ensures.size,
       (bounded (goal.at.measured-requires c).After-samples-2).zx_small,
       small (search vals depth 10) tt,
     )
@@ -100,7 +93,6 @@ measured-requires-2 c =
     let a = c.args in
     let level = c.requires.placed.2 in (
       rest_few a.shape c.requires.some_samples.samples a.i a.p c.requires.placed.0 c.requires.some_samples.holds.taken.narrow,
-      c.samples-2.ensures.size,
       (bounded (goal.at.measured-requires-2 c).After-samples-2).zg_small,
       small (search vals depth 10) tt,
     )

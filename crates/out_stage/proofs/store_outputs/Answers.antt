@@ -1,14 +1,10 @@
 -- `out_stage::store_outputs` meets its contract. Assumes nothing.
 use mathlib.Core.Path.{ap}
-use native.Mathlib.Omega.{arith}
 use Rattle.frame.specs.Sites.{red, blue}
 use Rattle.frame.specs.Colours.{trade}
 use Rattle.out_stage.specs.RowColours.{row_red, row_blue}
-use Rattle.out_stage.specs.PlaneRows.{row_start, weave_asked, green_row, own_row, other_row}
+use Rattle.out_stage.specs.PlaneRows.{weave_asked, green_row, own_row, other_row}
 use Rattle.out_stage.proofs.store_outputs.Goals as goal
-
-pub overflow_mul-at : goal.overflow_mul-at
-overflow_mul-at c = omega (arith, row_start c.args.shape c.args.i c.requires.row)
 
 pub weave-requires : goal.weave-requires
 weave-requires c =
@@ -40,11 +36,19 @@ returns-then-i-shape-eq0 c =
     let a = c.args in
     let row = c.requires.row in
     let is = c.requires.start_is in
-    let has_red = row_red a.shape.phase a.i c.if-i-shape-eq0.true in record { plane_row = own_row a.shape a.i a.start row is _ _ _ _ _ _ _ _ red has_red c.weave-then-i-shape-eq0.ensures; plane_row_2 = green_row a.shape a.i a.start row is _ _ _ _ _ _ _ _ c.weave.ensures; plane_row_3 = other_row a.shape a.i a.start row is _ _ _ _ _ _ _ _ blue (ap trade has_red) c.weave-then-i-shape-eq0-2.ensures }
+    let has_red = row_red a.shape.phase a.i c.if-i-shape-eq0.true in record {
+      plane_row = own_row _ _ _ row is _ _ _ _ _ _ _ _ red has_red c.weave-then-i-shape-eq0.ensures;
+      plane_row_2 = green_row _ _ _ row is _ _ _ _ _ _ _ _ c.weave.ensures;
+      plane_row_3 = other_row _ _ _ row is _ _ _ _ _ _ _ _ blue (ap trade has_red) c.weave-then-i-shape-eq0-2.ensures;
+    }
 
 pub returns-else-i-shape-eq0 : goal.returns-else-i-shape-eq0
 returns-else-i-shape-eq0 c =
     let a = c.args in
     let row = c.requires.row in
     let is = c.requires.start_is in
-    let has_blue = row_blue a.shape.phase a.i c.if-i-shape-eq0.false in record { plane_row = other_row a.shape a.i a.start row is _ _ _ _ _ _ _ _ red (ap trade has_blue) c.weave-else-i-shape-eq0-2.ensures; plane_row_2 = green_row a.shape a.i a.start row is _ _ _ _ _ _ _ _ c.weave.ensures; plane_row_3 = own_row a.shape a.i a.start row is _ _ _ _ _ _ _ _ blue has_blue c.weave-else-i-shape-eq0.ensures }
+    let has_blue = row_blue a.shape.phase a.i c.if-i-shape-eq0.false in record {
+      plane_row = other_row _ _ _ row is _ _ _ _ _ _ _ _ red (ap trade has_blue) c.weave-else-i-shape-eq0-2.ensures;
+      plane_row_2 = green_row _ _ _ row is _ _ _ _ _ _ _ _ c.weave.ensures;
+      plane_row_3 = own_row _ _ _ row is _ _ _ _ _ _ _ _ blue has_blue c.weave-else-i-shape-eq0.ensures;
+    }

@@ -1,11 +1,7 @@
--- What the loop of `payload::unpack_payload` keeps.
-use Prim.Native.Nat.{◌-◌}
-use lib.ListN.{length}
-use Rattle.payload.proofs.Groups.{Filled}
+-- What the loop of `payload::unpack_payload` keeps: the first 4·g samples are stored.
+use Rattle.std.proofs.Common.{◌≡◌, ◌*◌, take}
+use Rattle.frame_file.specs.FrameFile.{unpacked_payload}
 use Rattle.payload.proofs.unpack_payload.Given as goal
 
-abbrev pub invariant-loop-k : goal.invariant-loop-k
-invariant-loop-k l = Filled l.payload l.initial.samples l.samples l.k
-
-abbrev pub decreases-loop-k : goal.decreases-loop-k
-decreases-loop-k l = length l.initial.samples - l.k
+abbrev pub invariant-loop-g : goal.invariant-loop-g
+invariant-loop-g l = take (4 * l.g) l.samples ≡ take (4 * l.g) (unpacked_payload l.payload)

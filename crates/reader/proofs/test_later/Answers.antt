@@ -1,29 +1,9 @@
 -- `reader::test_later` meets its contract. Assumes nothing.
-use Rattle.reader.proofs.Tests.{later_refused, bytes_refused, samples_refused, later_done}
+use Rattle.std.proofs.lemmas.Result.{err_from_is_err_and}
+use Rattle.reader.proofs.Tests.{later_refused}
 use Rattle.reader.proofs.test_later.Goals as goal
 
-pub returns-in-Refused : goal.returns-in-Refused
-returns-in-Refused c =
-    let start = c.args in
-    later_refused start.file.now start.samples start.n c.test_block.ensures _
-    c.in-Refused.is
-
-pub returns-then-not-zero : goal.returns-then-not-zero
-returns-then-not-zero c =
-    let start = c.args in
-    bytes_refused start.file.now start.samples start.n c.test_block.ensures
-    c.in-Done.is c.zero.ensures c.if-not-zero.true
-
-pub returns-then-not-zero_from : goal.returns-then-not-zero_from
-returns-then-not-zero_from c =
-    let start = c.args in
-    samples_refused start.file.now start.samples start.n c.test_block.ensures
-    c.in-Done.is c.zero.ensures c.if-not-zero.false
-    c.payload.ensures.0 c.zero_from.ensures c.if-not-zero_from.true
-
-pub returns : goal.returns
-returns c =
-    let start = c.args in
-    later_done start.file.now start.samples start.n c.test_block.ensures
-    c.in-Done.is c.zero.ensures c.if-not-zero.false
-    c.payload.ensures.0 c.zero_from.ensures c.if-not-zero_from.false
+pub returns-in_err-test_block : goal.returns-in_err-test_block
+returns-in_err-test_block c =
+    let back = err_from_is_err_and c.from_residual.result c.from_residual.ensures.1 in
+    rw (back.1, back.2) (later_refused c.args.file.now c.args.samples c.args.n c.test_block.ensures _ c.in_err-test_block.was)

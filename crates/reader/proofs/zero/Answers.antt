@@ -1,23 +1,11 @@
--- `reader::zero` meets its contract. The invariant: the first k bytes are zero. Assumes nothing.
-use mathlib.Core.Path.{refl, sym, ◌∙◌}
-use Rattle.frame_file.specs.Lists.{all_zero_past}
-use Rattle.reader.proofs.Tests.{zero_on, zero_stop}
-use native.Mathlib.Omega.{arith}
+-- `reader::zero` meets its contract. Assumes nothing.
+use Rattle.std.proofs.Common.{◌∙◌, eqb, rules, tests}
+use Rattle.std.proofs.lemmas.Iterator.{YieldsList-from_slice}
+use Rattle.std.proofs.lemmas.Iterator.Search.{all_from_yields_List}
+use Rattle.reader.proofs.Tests.{each_zero}
 use Rattle.reader.proofs.zero.Goals as goal
 
-pub loop-k-init : goal.loop-k-init
-loop-k-init c = refl
-
-pub returns-then-bytes-k-ne0 : goal.returns-then-bytes-k-ne0
-returns-then-bytes-k-ne0 c =
-    sym (c.loop-k.invariant
-    ∙ zero_stop c.args.bytes.now c.loop-k.k (omega arith)
-    c.if-bytes-k-ne0.true)
-
-pub loop-k-preserved : goal.loop-k-preserved
-loop-k-preserved c = c.loop-k.invariant
-    ∙ zero_on c.args.bytes.now c.loop-k.k (omega arith)
-    c.if-bytes-k-ne0.false
-
 pub returns : goal.returns
-returns c = sym (c.loop-k.invariant ∙ all_zero_past c.args.bytes.now c.loop-k.k (omega arith))
+returns c =
+    all_from_yields_List (λ z. eqb z 0) _ _ _ c.all.ensures.ran (YieldsList-from_slice c.args.bytes.now (cc)) (λ x b q k. search (rules, tests))
+    ∙ each_zero c.args.bytes.now

@@ -1,13 +1,8 @@
 -- What the loop of `second_pass::map_row` keeps.
-use mathlib.Core.Path.{◌≡◌}
-use Prim.Native.Nat.{◌*◌, ◌-◌, ◌/◌, ◌≤◌}
-use lib.ListN.{length}
+use Prim.Native.Nat.{◌*◌}
 use Rattle.toolkit.specs.Writes.{Wrote}
 use Rattle.second_pass.specs.Picked.{map_entry}
 use Rattle.second_pass.proofs.map_row.Given as goal
 
 abbrev pub invariant-loop-k : goal.invariant-loop-k
-invariant-loop-k l = (l.k ≤ l.w / 2) × (length l.map ≡ length l.initial.map) × Wrote 0 l.at (2 * l.k) (map_entry l.c l.codes) l.initial.map l.map
-
-abbrev pub decreases-loop-k : goal.decreases-loop-k
-decreases-loop-k l = l.w / 2 - l.k
+invariant-loop-k l = Wrote 0 l.at (2 * l.k) (map_entry l.c l.codes) l.initial.map l.map

@@ -1,4 +1,4 @@
--- `second_pass::pick` meets its contract. What is taken by a resolution is picked by the sums (`taken_picked`). Assumes nothing.
+-- `second_pass::pick` meets its contract. What a choice takes is picked by the sums (`taken_picked`). Assumes nothing.
 use mathlib.Core.Path.{refl, ◌∙◌, ap}
 use mathlib.Core.Bool.{cond}
 use Prim.Native.Nat.{ℕ}
@@ -14,9 +14,9 @@ pub returns : goal.returns
 returns c =
     let a = c.args in
     let f = c.ranges in
-    let second = c.resolution-second.ensures in (
-      as_read c.taken.type_inv ∙ c.taken.ensures ∙ taken_picked _ _ _ _ _ _ second
+    let choice = c.resolution-choice.ensures in (
+      as_read c.taken.type_inv ∙ c.taken.ensures ∙ taken_picked _ _ _ _ _ _ choice
           ∙ picked_read (to_z-of_z {w = w32} f.fh) (to_z-of_z {w = w32} f.fv) (to_z-of_z {w = w32} f.fd) (to_z-of_z {w = w32} f.x) (to_z-of_z {w = w32} f.y) (to_z-of_z {w = w32} f.z),
       c.resolve.ensures ∙ ap (λ (n : ℕ). cond (ltb a.first 4) a.first n)
-          (second ∙ picked_read (to_z-of_z {w = w32} f.fh) (to_z-of_z {w = w32} f.fv) (to_z-of_z {w = w32} f.fd) refl refl refl),
+          (c.code.ensures ∙ taken_picked _ _ _ _ _ _ choice ∙ picked_read (to_z-of_z {w = w32} f.fh) (to_z-of_z {w = w32} f.fv) (to_z-of_z {w = w32} f.fd) refl refl refl),
     )

@@ -2,13 +2,10 @@
 use mathlib.Core.Path.{◌≡◌, ◌∙◌}
 use lib.IntN.{pos, ◌+ℤ◌, ◌*ℤ◌}
 use mir.Facts.{to_z-of_z}
-use Rattle.toolkit.specs.Bounds.{fits, val}
+use Rattle.toolkit.specs.Bounds.{val}
 use Rattle.toolkit.specs.BoundRules.{vals}
 use Rattle.site_values.specs.Roundings.{fused_is, quotient_most}
 use Rattle.site_values.proofs.fuse.Goals as goal
-
-pub overflow_sub-result : goal.overflow_sub-result
-overflow_sub-result c = let h = quotient_most c.shares.result c.shares.ensures.1 in fits (search vals depth 10) tt
 
 pub returns : goal.returns
 returns c =

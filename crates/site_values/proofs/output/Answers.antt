@@ -1,18 +1,12 @@
 -- `site_values::output` meets its contract. Assumes nothing.
 use mathlib.Core.Path.{◌∙◌, ap}
 use lib.IntN.{ℤ, ◌-ℤ◌}
-use Rattle.toolkit.specs.Bounds.{fits, val}
+use Rattle.toolkit.specs.Bounds.{val}
 use Rattle.toolkit.specs.BoundRules.{vals}
 use Rattle.toolkit.specs.Shifts.{b_shift}
 use Rattle.method.specs.Planes.{final_round}
 use Rattle.site_values.specs.Roundings.{quarter}
 use Rattle.site_values.proofs.output.Goals as goal
-
-pub overflow_add-result : goal.overflow_add-result
-overflow_add-result c = fits (search vals depth 30) tt
-
-pub overflow_sub-result : goal.overflow_sub-result
-overflow_sub-result c = fits (search (b_shift, vals) depth 30) tt
 
 pub returns : goal.returns
 unfolding final_round

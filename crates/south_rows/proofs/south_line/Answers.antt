@@ -1,5 +1,4 @@
 -- `south_rows::south_line` meets its contract. Both halves are one row in halves (`halves_stored`). Assumes nothing.
-use mathlib.Core.Path.{◌∙◌}
 use native.Mathlib.Omega.{arith}
 use Rattle.frame.specs.Sites.{frame}
 use Rattle.south_rows.specs.NorthRows.{halves_stored}
@@ -12,11 +11,11 @@ half_count-count-requires c = lent_limits c.requires
 
 pub down_row-requires : goal.down_row-requires
 down_row-requires c =
-    let l = c.requires in record { w_bound = ((lent_limits l).1, l.v_size); small_rows = lent_small l }
+    let l = c.requires in record { w_bound = (lent_limits l).1; small_rows = lent_small l }
 
 pub north_row-requires : goal.north_row-requires
 north_row-requires c =
-    let l = c.requires in record { north_reads = north_reads l c.down_row.ensures; gradients_len = l.gradients_size }
+    let l = c.requires in record { north_reads = north_reads l c.down_row.ensures }
 
 pub overflow_add-c : goal.overflow_add-c
 overflow_add-c c = omega (arith, lent_limits c.requires)
@@ -35,9 +34,6 @@ pub take_half-requires-2 : goal.take_half-requires-2
 take_half-requires-2 c =
     second_fits c.requires (c.half_count-count.ensures.0) c.take_half.ensures.size
 
-pub shape_of-out : goal.shape_of-out
-shape_of-out c = c.take_half-2.ensures.size ∙ c.take_half.ensures.size
-
 pub returns : goal.returns
 returns c =
     let a = c.args in
@@ -49,5 +45,4 @@ returns c =
             (north_formed a.shape.width a.rows.now a.at _ pairs c.north_row.ensures) (c.half_count-count.ensures.0) first
             c.take_half-2.ensures;
       };
-      v_len = (pairs.size, c.north_row.ensures.size);
     }

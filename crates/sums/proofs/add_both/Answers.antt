@@ -6,34 +6,15 @@ use lib.ListN.{get_or}
 use mir.Syntax.{w32}
 use mir.Val.{to_z, of_z}
 use mir.Facts.{to_z-of_z}
-use Rattle.toolkit.specs.Entries.{entries_none, entries_next, entries_past, entries_as}
+use Rattle.toolkit.specs.Entries.{entries_next, entries_past}
 use Rattle.half_rows.specs.Reading.{as_read, size_read}
 use Rattle.sums.specs.Sums.{entries_of, with_columns, with_rows}
 use Rattle.sums.specs.Gaps.{gaps_read}
 use Rattle.sums.specs.Sizes.{columns_most}
 use native.Mathlib.Omega.{arith}
+use borrow.Author.Rules.{rules}
 use Rattle.sums.proofs.add_both.Goals as goal
 use Rattle.sums.proofs.add_both.Goals.{After-add_gaps-columns}
-
-pub loop-k-init : goal.loop-k-init
-loop-k-init c = (omega arith, entries_none c.requires.t_bound.5, record { size = c.requires.t_bound.5; at = λ x l h. refl })
-
-pub add_gaps-columns-requires : goal.add_gaps-columns-requires
-add_gaps-columns-requires c =
-    let a = c.args in
-    let p = c.requires.sized in
-    let k = c.loop-k.k in
-    let l : k < a.count = omega arith in
-    let old = c.loop-k.invariant.2.at (k + 4) (omega arith) (omega arith) in (
-      size_read (get_or a.sums.now (k + 4) (pos 0)) (as_read c.add_gaps-arg-1.given ∙ old)
-          (omega (arith, p.3.each (k + 4) (omega arith) (omega arith))),
-      size_read (get_or a.row.now (k + 4) (pos 0)) (as_read c.x-1.given)
-          (p.0.each (k + 4) (omega arith) (omega arith)),
-      size_read (get_or a.row.now (k + 4 - a.t) (pos 0)) (as_read c.add_gaps-arg-in-loop-k-1.given)
-          (p.0.each (k + 4 - a.t) (omega arith) (omega arith)),
-      size_read (get_or a.row.now (k + 4 + a.t) (pos 0)) (as_read c.add_gaps-arg-in-loop-k-2-1.given)
-          (p.0.each (k + 4 + a.t) (omega arith) (omega arith)),
-    )
 
 -- the sum with the distances along the row
 columns_added : (c : After-add_gaps-columns)
@@ -44,12 +25,12 @@ columns_added c =
     let a = c.args in
     let k = c.loop-k.k in
     let l : k < a.count = omega arith in
-    let old = c.loop-k.invariant.2.at (k + 4) (omega arith) (omega arith) in
+    let old = c.loop-k.invariant.1.at (k + 4) (omega arith) (omega arith) in
     to_z-of_z {w = w32} (record { sfits = c.add_gaps-columns.type_inv }) ∙ (c.add_gaps-columns.ensures
     ∙ gaps_read _ _ _ _ _ _ _
-    (as_read c.x-1.given) (as_read c.add_gaps-arg-in-loop-k-1.given)
-    (as_read c.add_gaps-arg-in-loop-k-2-1.given)
-    (as_read c.add_gaps-arg-1.given ∙ old) refl refl)
+    (as_read (search rules)) (as_read (search rules))
+    (as_read (search rules))
+    (as_read (search rules) ∙ old) refl refl)
 
 pub add_gaps-requires : goal.add_gaps-requires
 add_gaps-requires c =
@@ -60,11 +41,11 @@ add_gaps-requires c =
       size_read _ (columns_added c.before.before)
           (columns_most a.t a.count (entries_of a.sums.now) c.requires.t_bound.0 p.0 (k + 4) (omega arith) (omega arith)
           (p.3.each (k + 4) (omega arith) (omega arith))),
-      size_read (get_or a.row.now (k + 4) (pos 0)) (as_read c.x-1.given)
+      size_read (get_or a.row.now (k + 4) (pos 0)) (as_read (search rules))
           (p.0.each (k + 4) (omega arith) (omega arith)),
-      size_read (get_or a.plane.now (a.up + k) (pos 0)) (as_read c.add_gaps-arg-in-loop-k-3-1.given)
+      size_read (get_or a.plane.now (a.up + k) (pos 0)) (as_read (search rules))
           (p.1.each (a.up + k) (omega arith) (omega arith)),
-      size_read (get_or a.plane.now (a.down + k) (pos 0)) (as_read c.add_gaps-arg-in-loop-k-4-1.given)
+      size_read (get_or a.plane.now (a.down + k) (pos 0)) (as_read (search rules))
           (p.2.each (a.down + k) (omega arith) (omega arith)),
     )
 
@@ -75,16 +56,12 @@ loop-k-preserved c =
     let k = c.loop-k.k in
     let l : k < a.count = omega arith in
     let same : k ≡ k + 4 - 4 = omega arith in (
-      omega arith,
-      entries_next c.loop-k.invariant.1 (omega arith) (omega arith)
+      entries_next c.loop-k.invariant.0 (omega arith) (omega arith)
           (to_z-of_z {w = w32} (record { sfits = c.add_gaps.type_inv }) ∙ (c.add_gaps.ensures
           ∙ gaps_read _ _ _ _ _ _ _
-          (as_read c.x-1.given)
-          (as_read c.add_gaps-arg-in-loop-k-3-1.given ∙ ap (λ (x : ℕ). get_or a.plane.now (a.up + x) (pos 0)) same)
-          (as_read c.add_gaps-arg-in-loop-k-4-1.given ∙ ap (λ (x : ℕ). get_or a.plane.now (a.down + x) (pos 0)) same)
+          (as_read (search rules))
+          (as_read (search rules) ∙ ap (λ (x : ℕ). get_or a.plane.now (a.up + x) (pos 0)) same)
+          (as_read (search rules) ∙ ap (λ (x : ℕ). get_or a.plane.now (a.down + x) (pos 0)) same)
           (columns_added c.before.before.before) refl refl)),
-      entries_past _ c.loop-k.invariant.2 (omega arith) (omega arith),
+      entries_past _ c.loop-k.invariant.1 (omega arith) (omega arith),
     )
-
-pub returns : goal.returns
-returns c = entries_as c.loop-k.invariant.1 (omega arith) (omega arith) (λ x l h. refl)

@@ -4,32 +4,21 @@ use Prim.Native.Nat.{◌*◌}
 use native.Mathlib.Omega.{arith}
 use Rattle.method.specs.Green.{horizontal, vertical, diagonal}
 use Rattle.sums.specs.Widening.{Stepped, count_is, widens}
-use Rattle.sums.specs.Room.{columns_asked, rows_asked, both_asked, row_place, before, room_next}
+use Rattle.sums.specs.Room.{columns_asked, rows_asked, both_asked, before, room_next}
 use Rattle.sums.proofs.add_step.Goals as goal
-
-pub overflow_mul-up : goal.overflow_mul-up
-overflow_mul-up c =
-    let a = c.args in
-    omega (arith, row_place c.requires.some_samples.holds.planes (count_is c.args.shape c.args.i c.args.count c.requires.count_value.0 c.requires.some_samples.samples) c.row_above.result c.row_above.ensures.value.1)
-
-pub overflow_mul-down : goal.overflow_mul-down
-overflow_mul-down c =
-    let a = c.args in
-    omega (arith, row_place c.requires.some_samples.holds.planes (count_is c.args.shape c.args.i c.args.count c.requires.count_value.0 c.requires.some_samples.samples) c.row_below.result c.row_below.ensures.value.1)
 
 pub add_columns-requires : goal.add_columns-requires
 add_columns-requires c =
     let r = c.requires.some_samples.holds in
     let m = c.requires.sums_room in
-    let whole = columns_asked r (count_is c.args.shape c.args.i c.args.count c.requires.count_value.0 c.requires.some_samples.samples) c.requires.count_value.2 horizontal _ _ r.across_row m.across_size (before m.across_most (omega arith)) in record { t_bound = whole.0; sized = whole.1 }
+    let whole = columns_asked r (count_is c.args.shape c.args.i c.args.count c.requires.count_value.0 c.requires.some_samples.samples) c.requires.count_value.2 horizontal _ _ r.across_row (before m.across_most (omega arith)) in record { t_bound = whole.0; sized = whole.1 }
 
 pub add_rows-requires : goal.add_rows-requires
 add_rows-requires c =
     let r = c.requires.some_samples.holds in
     let m = c.requires.sums_room in
     let whole = rows_asked r (count_is c.args.shape c.args.i c.args.count c.requires.count_value.0 c.requires.some_samples.samples) c.requires.count_value.2 vertical _ _ _ _ _ r.down_row r.planes.verticals_held r.planes.verticals_size
-    c.row_above.ensures.value c.row_below.ensures.value m.down_size
-    (before m.down_most (omega arith)) in record { count_in_bounds = whole.0; sized = whole.1 }
+    c.row_above.ensures.value c.row_below.ensures.value (before m.down_most (omega arith)) in record { count_in_bounds = whole.0; sized = whole.1 }
 
 pub add_both-requires : goal.add_both-requires
 add_both-requires c =
@@ -37,7 +26,7 @@ add_both-requires c =
     let m = c.requires.sums_room in
     let whole = both_asked r (count_is c.args.shape c.args.i c.args.count c.requires.count_value.0 c.requires.some_samples.samples) c.requires.count_value.2 diagonal _ _ _ _ _ r.both_row r.planes.diagonals_held r.planes.diagonals_size
     c.row_above.ensures.value
-    c.row_below.ensures.value m.both_size (before m.both_most (omega arith)) in record { t_bound = whole.0; sized = whole.1 }
+    c.row_below.ensures.value (before m.both_most (omega arith)) in record { t_bound = whole.0; sized = whole.1 }
 
 pub returns : goal.returns
 returns c =
@@ -45,7 +34,8 @@ returns c =
     let up = c.row_above in
     let down = c.row_below in
     let new : Stepped a.t (up.result * a.shape.width) (down.result * a.shape.width) a.count a.diagonals.now
-    a.verticals.now a.rh.now a.rv.now a.rd.now a.fh.now a.fv.now a.fd.now _ _ _ = record {
+    a.verticals.now a.trials.now.across a.trials.now.vertical a.trials.now.diagonal a.sums.now.across a.sums.now.vertical
+    a.sums.now.diagonal _ _ _ = record {
       across = c.add_columns.ensures;
       down_columns = c.add_rows.ensures;
       both = c.add_both.ensures;

@@ -1,14 +1,7 @@
--- `sums::clear` meets its contract. The loop has cleared the entries below k + 4. Assumes nothing.
-use mathlib.Core.Path.{refl}
-use Rattle.toolkit.specs.Entries.{entries_none, entries_next, entries_as}
-use native.Mathlib.Omega.{arith}
+-- `sums::clear` meets its contract. Assumes nothing.
+use Rattle.std.proofs.Common.{arith}
+use Rattle.std.proofs.lemmas.Grind.{common_steps}
 use Rattle.sums.proofs.clear.Goals as goal
 
-pub loop-k-init : goal.loop-k-init
-loop-k-init c = (omega arith, entries_none c.requires.1)
-
-pub loop-k-preserved : goal.loop-k-preserved
-loop-k-preserved c = (omega arith, entries_next c.loop-k.invariant.1 (omega arith) (omega arith) refl)
-
 pub returns : goal.returns
-returns c = entries_as c.loop-k.invariant.1 (omega arith) (omega arith) (λ x l h. refl)
+returns c = record { size = grind (arith, common_steps); at = λ x l h. grind (arith, common_steps) }

@@ -1,35 +1,13 @@
 -- `text::refusal` meets its contract. Assumes nothing.
-use native.Mathlib.Omega.{arith}
-use Rattle.text.specs.Lines.{length_ended, digits_64, refusal_put}
+use Rattle.std.proofs.Common.{◌∙◌, arith}
+use Rattle.text.specs.Lines.{refusal_line_short, refusal_pieces}
 use Rattle.text.proofs.refusal.Goals as goal
 
-pub number_then-after_number-requires : goal.number_then-after_number-requires
-number_then-after_number-requires c =
-    omega (
-      arith,
-      c.requires,
-      c.bytes-after_word.ensures.behind,
-      c.bytes-after_word.auto.text,
-      digits_64 c.number_of-number.result (omega arith),
-    )
-
-pub number_then-requires : goal.number_then-requires
-number_then-requires c =
-    let of = c.number_of-number.result in
-    omega (
-      arith,
-      c.requires,
-      c.bytes-after_word.ensures.behind,
-      c.bytes-after_word.auto.text,
-      c.number_then-after_number.ensures.behind,
-      c.number_then-after_number.auto.text,
-      length_ended of 32,
-      digits_64 of (omega arith),
-      digits_64 c.place_of-place.result (omega arith),
-    )
+pub numbers_line-requires : goal.numbers_line-requires
+numbers_line-requires c =
+    rw (c.push_str.ensures.bytes, c.new-text.ensures) (omega (arith, refusal_line_short))
 
 pub returns : goal.returns
 returns c =
-    refusal_put c.args.why c.number_of-number.result c.place_of-place.result c.number_of-number.ensures
-    c.place_of-place.ensures (omega (arith, c.requires, digits_64 c.number_of-number.result (omega arith)))
-    c.bytes-after_word.ensures c.number_then-after_number.ensures c.number_then.ensures
+    c.numbers_line.ensures
+    ∙ rw (c.push_str.ensures.bytes, c.new-text.ensures) (refusal_pieces c.args.why _ _ c.number_of.ensures c.place_of.ensures)

@@ -1,12 +1,14 @@
 -- `writer::samples_of` meets its contract. Assumes nothing.
-use Prim.Native.Nat.{◌*◌, ◌-◌}
-use Rattle.frame_file.specs.Lists.{slice_part}
-use Rattle.writer.proofs.Blocks.{part_to_end}
-use native.Mathlib.Omega.{arith}
+use Rattle.std.proofs.Common.{◌≡◌, ℕ, ◌*◌, ◌-◌, List, length, drop, arith, length-drop}
+use Rattle.std.specs.Prelude.{min}
+use Rattle.std.proofs.lemmas.List.{take_min}
+use Rattle.frame_file.specs.Lists.{part}
 use Rattle.writer.proofs.samples_of.Goals as goal
 
-pub returns-then-mosaic-start-lt400 : goal.returns-then-mosaic-start-lt400
-returns-then-mosaic-start-lt400 c = part_to_end c.args.mosaic.now (400 * (c.args.n - 1)) 400 (omega arith)
-
 pub returns : goal.returns
-returns c = slice_part c.args.mosaic.now (400 * (c.args.n - 1)) 400
+unfolding part
+returns c =
+    let start : ℕ = 400 * (c.args.n - 1) in
+    let rest : List ℕ = drop start c.args.mosaic.now in
+    let count : c.min.result - start ≡ min 400 (length rest) = omega (arith, length-drop start c.args.mosaic.now) in
+    rw (count, take_min)

@@ -1,3 +1,0 @@
-pub mod Held
-pub mod Filling
-pub mod Answers

@@ -1,8 +1,0 @@
--- `out_rows::whole` meets its contract. Assumes nothing.
-use native.Mathlib.Omega.{arith}
-use mir.Syntax.{w32}
-use mir.Facts.{to_z_pos}
-use Rattle.out_rows.proofs.whole.Goals as goal
-
-pub returns : goal.returns
-returns c = to_z_pos w32 (omega arith)

@@ -1,8 +1,0 @@
--- `text::number_then` meets its contract. Assumes nothing.
-use native.Mathlib.Omega.{arith}
-use Rattle.text.specs.Put.{put_then}
-use Rattle.text.proofs.number_then.Goals as goal
-
-pub returns : goal.returns
-returns c =
-    put_then (omega (arith, c.requires)) c.number-next.ensures c.byte.ensures
