@@ -1,6 +1,6 @@
 -- The highest and the lowest of some samples, and the first that lies outside of two limits: what they say of numbers 5 and 12. Assumes
 -- nothing.
-use Rattle.std.specs.Prelude.{◌≡◌, List, [], ◌∷◌, ℕ, zero, suc, ◌+◌, ◌-◌, ◌<◌, ◌≤◌, max, min, leb, length, get_or, Option, MatchOption, Err}
+use Rattle.std.specs.Prelude.{◌≡◌, List, [], ◌∷◌, ℕ, zero, suc, ◌+◌, ◌-◌, ◌<◌, ◌≤◌, max, min, leb, length, get_or, Option, Some, None, MatchOption, Err}
 use Rattle.std.proofs.Common.{arith}
 use Rattle.toolkit.specs.Tests.{by_test, leb_le, leb_yes}
 use Rattle.frame.specs.declared.Refusal.TheVariants.{Sample, UnderBlack}
@@ -58,6 +58,23 @@ unfolding lowest_of
 least_lowest [] n h = absurd (omega arith)
 least_lowest (z ∷ l) zero h = omega arith
 least_lowest (z ∷ l) (suc n) h = omega (arith, least_lowest l n (omega arith))
+
+-- every sample is at most z, and one is z
+pub highest_found : (l : List ℕ) (o : Option ℕ)
+    → MatchOption o (length l ≡ 0) (λ z. ((n : ℕ) → n < length l → get_or l n 0 ≤ z) × ((n : ℕ) × (n < length l) × (get_or l n 0 ≡ z)))
+    → MatchOption o (length l ≡ 0) (λ z. z ≡ highest_of l)
+highest_found l None h = h
+highest_found l (Some z) h =
+    let at = h.1 in omega (arith, highest_most l z h.0, most_highest l at.0 at.1, at.2)
+
+-- every sample is at least z, and one is z
+pub lowest_found : (l : List ℕ) (o : Option ℕ)
+    → MatchOption o (length l ≡ 0)
+    (λ z. (z ≤ 65535) × ((n : ℕ) → n < length l → z ≤ get_or l n 0) × ((n : ℕ) × (n < length l) × (get_or l n 0 ≡ z)))
+    → MatchOption o (length l ≡ 0) (λ z. z ≡ lowest_of l)
+lowest_found l None h = h
+lowest_found l (Some z) h =
+    let at = h.2 in omega (arith, lowest_least l z h.0 h.1, least_lowest l at.0 at.1, at.2)
 
 -- ---- number 5
 

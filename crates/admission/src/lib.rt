@@ -1,7 +1,7 @@
 // The tests of a shape, a black level and a mosaic's samples, for the calls that take a frame or read one.
 #![tactic(auto)]
 
-ghost use Rattle.std.specs.Prelude.{◌≡◌, ◌*◌, ◌≤◌};
+ghost use Rattle.std.specs.Prelude.{◌≡◌, ◌*◌, ◌≤◌, length, MatchOption};
 ghost use Rattle.frame.specs.Sites.{side_allowed};
 ghost use Rattle.frame.specs.Calls.{samples_answer, black_answer, under_answer, no_refusal};
 ghost use Rattle.admission.specs.ShapeTest.{shape_allowed, shape_answer, count_answer};
@@ -15,14 +15,6 @@ fn side_in_range(n: usize) -> bool
     ensures { result ≡ side_allowed n }
 {
     (2..=4096).contains(&n)
-}
-
-// Whether W, H and the phase are allowed.
-#[tactic(auto, unfolding(crate::specs::ShapeTest::shape_allowed, frame::specs::Sites::phase_allowed))]
-pub fn shape_in_range(shape: Shape) -> bool
-    ensures { result ≡ shape_allowed shape }
-{
-    side_in_range(shape.width) && side_in_range(shape.height) && shape.phase <= 3
 }
 
 // W·H.
@@ -45,6 +37,14 @@ pub fn test_shape(shape: Shape) -> Answer
         return Err(Refusal::Phase);
     }
     Ok(())
+}
+
+// Whether W, H and the phase are allowed.
+#[tactic(auto, unfolding(crate::specs::ShapeTest::shape_allowed, crate::specs::ShapeTest::shape_answer))]
+pub fn shape_in_range(shape: Shape) -> bool
+    ensures { result ≡ shape_allowed shape }
+{
+    test_shape(shape).is_ok()
 }
 
 // Number 11.
@@ -70,18 +70,19 @@ pub fn test_count(shape: Shape, count: usize) -> Answer
     Ok(())
 }
 
-// The highest sample, 0 of none.
-fn highest(samples: &[u16]) -> u16
-    ensures { result ≡ highest_of samples.now }
+// The highest sample, None of none.
+fn highest(samples: &[u16]) -> Option<u16>
+    ensures { MatchOption result (length samples.now ≡ 0) (λ z. z ≡ highest_of samples.now) }
 {
-    samples.iter().copied().max().unwrap_or(0)
+    samples.iter().copied().max()
 }
 
-// The lowest sample, 65,535 of none.
-fn lowest(samples: &[u16]) -> u16
-    ensures { result ≡ lowest_of samples.now }
+// The lowest sample, None of none.
+#[tactic(auto, using(crate::specs::Extremes::lowest_found))]
+fn lowest(samples: &[u16]) -> Option<u16>
+    ensures { MatchOption result (length samples.now ≡ 0) (λ z. z ≡ lowest_of samples.now) }
 {
-    samples.iter().copied().min().unwrap_or(65535)
+    samples.iter().copied().min()
 }
 
 // The position of the first sample below low or above high, None where there is none.
@@ -98,7 +99,7 @@ fn first_outside(samples: &[u16], low: usize, high: usize) -> Option<usize>
 pub fn test_samples(samples: &[u16]) -> Answer
     ensures { result ≡ samples_answer samples.now }
 {
-    if highest(samples) <= 1023 {
+    if highest(samples).is_none_or(|z| z <= 1023) {
         return Ok(());
     }
     match first_outside(samples, 0, 1023) {
@@ -118,7 +119,7 @@ pub fn test_under(samples: &[u16], black: usize) -> Answer
         return Ok(());
     }
     let low = black - 64;
-    if usize::from(lowest(samples)) >= low {
+    if lowest(samples).is_none_or(|z| low <= usize::from(z)) {
         return Ok(());
     }
     match first_outside(samples, low, 1023) {

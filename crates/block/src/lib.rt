@@ -3,7 +3,7 @@
 
 ghost use Rattle.std.specs.Prelude.{◌≡◌, ◌+◌, ◌*◌, ◌<◌, ◌≤◌, length};
 ghost use Rattle.frame_file.specs.Lists.{part};
-ghost use Rattle.frame_file.specs.FrameFile.{little_endian, little_endian_bytes, check, has_tag, payload as payload_of, block_count};
+ghost use Rattle.frame_file.specs.FrameFile.{little_endian, little_endian_bytes, check, has_tag, block as block_of, payload as payload_of, block_count};
 ghost use Rattle.block.specs.BlockTest.{block_answer};
 
 use frame::{Answer, Refusal};
@@ -53,8 +53,7 @@ pub fn check_of(block: &[u8]) -> usize
 
 // The tests that every block has: its check, then its number.
 #[tactic(auto, using(crate::proofs::Answers::check_refused, crate::proofs::Answers::number_refused, crate::proofs::Answers::block_passes))]
-pub fn test_block(block: &[u8], n: usize) -> Answer
-    requires { length block.now ≡ 512 }
+pub fn test_block(block: &[u8; 512], n: usize) -> Answer
     ensures { result ≡ block_answer block.now n }
 {
     if number_of_four(block, 508) != check_of(block) {
@@ -68,21 +67,30 @@ pub fn test_block(block: &[u8], n: usize) -> Answer
 
 // Whether a block has the tag in bytes 4..7.
 #[tactic(auto, using(crate::proofs::Laws::tag_compared))]
-pub fn tagged(block: &[u8]) -> bool
-    requires { length block.now ≡ 512 }
+pub fn tagged(block: &[u8; 512]) -> bool
     ensures { result ≡ has_tag block.now }
 {
     block[4..8] == TAG[..]
 }
 
+// Block n, as a part of the file.
+#[tactic(auto, using(frame_file::specs::Lists::slice_part), unfolding(frame_file::specs::FrameFile::block))]
+pub fn at(file: &[u8], n: usize) -> &[u8; 512]
+    requires { 512 * n + 512 ≤ length file.now }
+    ensures { result.now ≡ block_of file.now n }
+{
+    let start = 512 * n;
+    file[start..start + 512].try_into().unwrap()
+}
+
 // The payload of block n, as a part of the file.
 #[tactic(auto, using(frame_file::specs::Lists::slice_part), unfolding(frame_file::specs::FrameFile::payload))]
-pub fn payload(file: &[u8], n: usize) -> &[u8]
+pub fn payload(file: &[u8], n: usize) -> &[u8; 500]
     requires { 512 * n + 512 ≤ length file.now }
-    ensures { (result.now ≡ payload_of file.now n) × (length result.now ≡ 500) }
+    ensures { result.now ≡ payload_of file.now n }
 {
     let start = 512 * n + 4;
-    &file[start..start + 500]
+    file[start..start + 500].try_into().unwrap()
 }
 
 // How many blocks a file of so many samples has.

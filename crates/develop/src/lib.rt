@@ -71,7 +71,7 @@ fn run(
     sweep::sweep(
         mosaic,
         shape,
-        black,
+        black as u8,
         red,
         green,
         blue,

@@ -1,6 +1,6 @@
 -- A row of final differences, from D of the rows i and two off. Assumes nothing.
 use Rattle.std.specs.Prelude.{◌≡◌, List, ℕ, ◌+◌, ◌*◌, ◌-◌, ◌%◌, ◌<◌, ◌≤◌, min, ℤ, pos, neg_ℤ, nat_abs, ◌+ℤ◌, length, get_or}
-use Rattle.std.proofs.Common.{sym, ◌∙◌, subst, le_trans, arith, lit≤}
+use Rattle.std.proofs.Common.{sym, ◌∙◌, le_trans, arith, lit≤}
 use Rattle.std.proofs.Math.Path.{ap, ap₂}
 use Rattle.std.proofs.Math.IntN.{sub_ℕ}
 use Rattle.toolkit.specs.Orders.{to_naturals}
@@ -24,18 +24,11 @@ use Rattle.records.specs.Layout.{record_size, south_part}
 use Rattle.records.specs.Quantities.{greens, finals}
 use Rattle.records.specs.Stages.{ChromaHeld, PlaneSize, EnhanceReads}
 use Rattle.half_rows.specs.Sources.{Sized, source_entry, north_entry}
+use Rattle.half_rows.specs.Reading.{by_sites}
 use Rattle.half_rows.specs.Mirror.{mirrored}
 use Rattle.half_rows.specs.Beside.{half_near, half_around, half_of_row, row_near_even}
 use Rattle.half_rows.specs.GradientRow.{GradientRow, start_small, count_is, site_inside, gradients_are}
 use Rattle.differences.specs.Rows.{straight_read, straight_mean_read, ValuesFit}
-
--- site k of a half row stands at entry k + 4
-by_sites : {m n : ℕ} {row : List ℤ} → ((k : ℕ) → k < n → nat_abs (get_or row (k + 4) (pos 0)) ≤ m) → Sized m 4 (n + 4) row
-by_sites {m} {n} {row} each = record {
-  each = λ x low high.
-      let e : x - 4 + 4 ≡ x = omega arith in
-      subst (λ (y : ℕ). nat_abs (get_or row y (pos 0)) ≤ m) e (each (x - 4) (omega arith));
-}
 
 on_two : (c k : ℕ) → sub_ℕ (c + 2 * (k + 5)) 8 ≡ pos (c + 2 * k) +ℤ pos 2
 on_two c k = simp to_naturals (omega arith)

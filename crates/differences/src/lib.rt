@@ -11,7 +11,7 @@ ghost use Rattle.positions.specs.Taken.{SomeSamples};
 ghost use Rattle.records.specs.Layout.{record_size, final_part};
 ghost use Rattle.records.specs.Stages.{EnhanceReads, EnhanceStores, DiagonalReads, DiagonalStores};
 ghost use Rattle.differences.specs.Rows.{straight_read, corners_read, straight_mean_read, corner_mean_read};
-ghost use Rattle.half_rows.specs.Sources.{Sized, GradientsFit};
+ghost use Rattle.half_rows.specs.Sources.{Sized};
 ghost use Rattle.differences.specs.Rows.{ValuesFit};
 
 use half_rows::{Scratch, SiteGradients};
@@ -24,12 +24,11 @@ fn straight_mean(
     green: &[i32],
     below: usize,
     above: usize,
-    count: usize,
     k: usize,
 ) -> i32
-    requires k_lt_count { (k < count) × (below + count ≤ length green.now) × (above + count ≤ length green.now) × (length green.now ≤ 67108864) }
-    requires gradients_fit { GradientsFit count gradients.east gradients.south gradients.work.now gradients.north.now }
-    requires values_fit { ValuesFit 8184 count (straight_read l.now green.now below above) }
+    requires k_lt_count { (k < gradients.count) × (below + gradients.count ≤ length green.now) × (above + gradients.count ≤ length green.now)
+        × (length green.now ≤ 67108864) }
+    requires values_fit { ValuesFit 8184 gradients.count (straight_read l.now green.now below above) }
     ensures { result ≡ straight_mean_read gradients.entry.work.now gradients.entry.east gradients.entry.south gradients.entry.north.now
         l.now green.now below above k }
 {
@@ -44,19 +43,18 @@ fn straight_means(
     green: &[i32],
     below: usize,
     above: usize,
-    count: usize,
     m: &mut [i32; 2064],
 )
-    requires count_in_bounds { (below + count ≤ length green.now) × (above + count ≤ length green.now) × (length green.now ≤ 67108864) }
-    requires gradients_fit { GradientsFit count gradients.east gradients.south gradients.work.now gradients.north.now }
-    requires values_fit { ValuesFit 8184 count (straight_read l.now green.now below above) }
-    ensures { Entries (pos 0) 2064 4 (count + 4)
+    requires count_in_bounds { (below + gradients.count ≤ length green.now) × (above + gradients.count ≤ length green.now)
+        × (length green.now ≤ 67108864) }
+    requires values_fit { ValuesFit 8184 gradients.count (straight_read l.now green.now below above) }
+    ensures { Entries (pos 0) 2064 4 (gradients.entry.count + 4)
         (λ (x : ℕ). straight_mean_read gradients.entry.work.now gradients.entry.east gradients.entry.south gradients.entry.north.now
         l.now green.now below above (x - 4))
         m.new }
 {
-    for k in 0..count {
-        m[k + 4] = straight_mean(gradients, l, green, below, above, count, k);
+    for k in 0..gradients.count {
+        m[k + 4] = straight_mean(gradients, l, green, below, above, k);
     }
 }
 
@@ -79,11 +77,10 @@ fn corner_mean(
     up: &[i32; 2064],
     down: &[i32; 2064],
     c: usize,
-    count: usize,
     k: usize,
 ) -> i32
-    requires k_lt_count { (k < count) × (c ≤ 1) × GradientsFit count gradients.east gradients.south gradients.work.now gradients.north.now }
-    requires values_fit { ValuesFit 4092 count (corners_read up.now down.now c) }
+    requires k_lt_count { (k < gradients.count) × (c ≤ 1) }
+    requires values_fit { ValuesFit 4092 gradients.count (corners_read up.now down.now c) }
     ensures { result ≡ corner_mean_read gradients.entry.work.now gradients.entry.east gradients.entry.south gradients.entry.north.now
         up.now down.now c k }
 {
@@ -104,18 +101,17 @@ fn corner_means(
     up: &[i32; 2064],
     down: &[i32; 2064],
     c: usize,
-    count: usize,
     m: &mut [i32; 2064],
 )
-    requires c_bound { (c ≤ 1) × GradientsFit count gradients.east gradients.south gradients.work.now gradients.north.now }
-    requires values_fit { ValuesFit 4092 count (corners_read up.now down.now c) }
-    ensures { Entries (pos 0) 2064 4 (count + 4)
+    requires c_bound { c ≤ 1 }
+    requires values_fit { ValuesFit 4092 gradients.count (corners_read up.now down.now c) }
+    ensures { Entries (pos 0) 2064 4 (gradients.entry.count + 4)
         (λ (x : ℕ). corner_mean_read gradients.entry.work.now gradients.entry.east gradients.entry.south gradients.entry.north.now
         up.now down.now c (x - 4))
         m.new }
 {
-    for k in 0..count {
-        m[k + 4] = corner_mean(gradients, up, down, c, count, k);
+    for k in 0..gradients.count {
+        m[k + 4] = corner_mean(gradients, up, down, c, k);
     }
 }
 
@@ -142,8 +138,9 @@ pub fn enhance_line(tops: &[i32], row: Row, work: &mut [i32], green: &[i32], scr
         east: records::record_at(row),
         south: records::south_at(row),
         north: n,
+        count: count,
     };
-    straight_means(gradients, l, green, below, above, count, m);
+    straight_means(gradients, l, green, below, above, m);
     fuse_row(l, m, count, work, records::final_at(row));
 }
 
@@ -185,7 +182,8 @@ pub fn diagonal_line(tops: &[i32], row: Row, work: &mut [i32], scratch: &mut Scr
         east: records::record_at(row),
         south: records::south_at(row),
         north: n,
+        count: count,
     };
-    corner_means(gradients, up, down, c, count, m);
+    corner_means(gradients, up, down, c, m);
     half_rows::store(m, count, work, records::other_at(row));
 }

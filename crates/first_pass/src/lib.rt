@@ -10,7 +10,8 @@ ghost use Rattle.method.specs.Green.{vertical, diagonal, first_pass};
 ghost use Rattle.records.specs.Quantities.{first_code};
 ghost use Rattle.first_pass.specs.Lines.{line_difference, across_difference, down_difference, SmallRows};
 ghost use Rattle.first_pass.specs.Outcomes.{outcome_of, settled};
-ghost use Rattle.first_pass.specs.Trials.{tried, site_trial, site_code, TrialReads};
+ghost use Rattle.half_rows.specs.Sources.{Sized};
+ghost use Rattle.first_pass.specs.Trials.{tried, site_trial, site_code};
 
 use half_rows::SiteGradients;
 
@@ -118,7 +119,7 @@ fn code_of(o: FirstPass) -> u8
     o as u8
 }
 
-// What the first pass leaves of a site: r_D, r_V, and the code of how its green was found.
+// What the first pass leaves of a site: r_D, r_V, and the code of how its green was found, a number as the entry of the map is.
 #[derive(Clone, Copy)]
 pub struct Trial {
     pub diagonal: i32,
@@ -149,22 +150,21 @@ pub fn trial_row(
     diagonals: &mut [i32],
     verticals: &mut [i32],
     map: &mut [u8],
-    count: usize,
 )
-    requires trial_reads { TrialReads gradients.east gradients.south count gradients.work.now gradients.north.now a.now b.now }
-    requires count_in_bounds { (at + count ≤ length diagonals.old) × (length diagonals.old ≤ 16777216)
+    requires sized { (Sized 8184 4 (gradients.count + 4) a.now) × (Sized 8184 4 (gradients.count + 4) b.now) }
+    requires count_in_bounds { (at + gradients.count ≤ length diagonals.old) × (length diagonals.old ≤ 16777216)
         × (length verticals.old ≡ length diagonals.old) × (length map.old ≡ length diagonals.old) }
-    ensures wrote { Wrote (pos 0) at count
+    ensures wrote { Wrote (pos 0) at gradients.entry.count
         (site_trial diagonal gradients.entry.work.now gradients.entry.east gradients.entry.south gradients.entry.north.now a.now b.now)
         diagonals.old diagonals.new }
-    ensures wrote_2 { Wrote (pos 0) at count
+    ensures wrote_2 { Wrote (pos 0) at gradients.entry.count
         (site_trial vertical gradients.entry.work.now gradients.entry.east gradients.entry.south gradients.entry.north.now a.now b.now)
         verticals.old verticals.new }
-    ensures wrote_3 { Wrote 0 at count
+    ensures wrote_3 { Wrote 0 at gradients.entry.count
         (site_code gradients.entry.work.now gradients.entry.east gradients.entry.south gradients.entry.north.now)
         map.old map.new }
 {
-    for k in 0..count {
+    for k in 0..gradients.count {
         let g = gradients.at(k);
         let trial = try_site(g, a[k + 4], b[k + 4]);
         diagonals[at + k] = trial.diagonal;

@@ -115,6 +115,7 @@ fn trial_line(
         east: records::record_at(row),
         south: records::south_at(row),
         north: &scratch.north,
+        count: count,
     };
     trial_row(
         gradients,
@@ -124,7 +125,6 @@ fn trial_line(
         diagonals,
         verticals,
         map,
-        count,
     );
 }
 

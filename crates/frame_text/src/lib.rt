@@ -13,6 +13,18 @@ ghost use Rattle.frame_text.specs.Composes.{Composes};
 use frame::{Refusal, Shape};
 use text::{ROOM, Text};
 
+// Three planes of equal length, of rows of so many columns.
+#[derive(Clone, Copy)]
+struct Planes<'a> {
+    width: usize,
+    red: &'a [i32],
+    green: &'a [i32],
+    blue: &'a [i32],
+    ghost wide: { 0 < width },
+    ghost greens: { length green.now ≡ length red.now },
+    ghost blues: { length blue.now ≡ length red.now },
+}
+
 // Entry k of a clamped plane.
 fn clamped_entry(plane: &[i32], k: usize) -> usize
     requires { k < length plane.now }
@@ -22,33 +34,33 @@ fn clamped_entry(plane: &[i32], k: usize) -> usize
 }
 
 // The lines of all sites, from the clamped planes.
-fn lines(text: &mut Text, width: usize, red: &[i32], green: &[i32], blue: &[i32])
-    requires width_nonzero { (0 < width) × (length green.now ≡ length red.now) × (length blue.now ≡ length red.now) }
-    requires blue_in_bounds { length text.old.bytes + length (joined (length red.now) (planes_line width red.now green.now blue.now)) ≤ ROOM }
-    ensures { text.new.bytes ≡ text.old.bytes ++ joined (length red.now) (planes_line width red.now green.now blue.now) }
+fn lines(text: &mut Text, planes: Planes<'_>)
+    requires { length text.old.bytes
+        + length (joined (length planes.red.now) (planes_line planes.width planes.red.now planes.green.now planes.blue.now)) ≤ ROOM }
+    ensures { text.new.bytes ≡ text.old.bytes ++ joined (length planes.entry.red.now)
+        (planes_line planes.entry.width planes.entry.red.now planes.entry.green.now planes.entry.blue.now) }
 {
-    for k in 0..red.len() {
+    for k in 0..planes.red.len() {
         text::site_line(
             text,
-            k / width,
-            k % width,
-            clamped_entry(red, k),
-            clamped_entry(green, k),
-            clamped_entry(blue, k),
+            k / planes.width,
+            k % planes.width,
+            clamped_entry(planes.red, k),
+            clamped_entry(planes.green, k),
+            clamped_entry(planes.blue, k),
         );
     }
 }
 
 // The heading and the lines.
-fn planes_text(width: usize, red: &[i32], green: &[i32], blue: &[i32]) -> Text
-    requires width_nonzero { (0 < width) × (length green.now ≡ length red.now) × (length blue.now ≡ length red.now) }
-    requires clamped_numbers { (ClampedNumbers red.now) × (ClampedNumbers green.now) × (ClampedNumbers blue.now) }
-    requires red_len_bound { length red.now ≤ 1024 }
-    ensures { result.bytes ≡ text_of_planes width red.now green.now blue.now }
+fn planes_text(planes: Planes<'_>) -> Text
+    requires clamped_numbers { (ClampedNumbers planes.red.now) × (ClampedNumbers planes.green.now) × (ClampedNumbers planes.blue.now) }
+    requires red_len_bound { length planes.red.now ≤ 1024 }
+    ensures { result.bytes ≡ text_of_planes planes.entry.width planes.entry.red.now planes.entry.green.now planes.entry.blue.now }
 {
     let mut text = Text::new();
     text.push_str("row col red green blue\n");
-    lines(&mut text, width, red, green, blue);
+    lines(&mut text, planes);
     text
 }
 
@@ -65,18 +77,21 @@ fn clamped_plane<'a>(plane: &[i32], filled: &'a mut [i32; 1024]) -> &'a [i32]
 
 // The text of three planes, clamped.
 #[tactic(auto, using(crate::specs::PlanesText::clamped_clamped, crate::specs::PlanesText::length_clamped_list))]
-fn clamped_text(width: usize, red: &[i32], green: &[i32], blue: &[i32]) -> Text
-    requires width_nonzero { (0 < width) × (length green.now ≡ length red.now) × (length blue.now ≡ length red.now) }
-    requires red_len_bound { length red.now ≤ 1024 }
-    ensures { result.bytes ≡ text_of_planes width (clamped red.now) (clamped green.now) (clamped blue.now) }
+fn clamped_text(planes: Planes<'_>) -> Text
+    requires { length planes.red.now ≤ 1024 }
+    ensures { result.bytes ≡ text_of_planes planes.entry.width (clamped planes.entry.red.now)
+        (clamped planes.entry.green.now) (clamped planes.entry.blue.now) }
 {
     let mut reds = [0; 1024];
     let mut greens = [0; 1024];
     let mut blues = [0; 1024];
-    let reds = clamped_plane(red, &mut reds);
-    let greens = clamped_plane(green, &mut greens);
-    let blues = clamped_plane(blue, &mut blues);
-    planes_text(width, reds, greens, blues)
+    let clamped = Planes {
+        width: planes.width,
+        red: clamped_plane(planes.red, &mut reds),
+        green: clamped_plane(planes.green, &mut greens),
+        blue: clamped_plane(planes.blue, &mut blues),
+    };
+    planes_text(clamped)
 }
 
 // The text of a frame of at most 1,024 samples: developed at black level 0, clamped, and printed; or develop's refusal.
@@ -104,7 +119,12 @@ fn developed_text(shape: Shape, mosaic: &[u16]) -> Result<Text, Refusal>
         &mut map[..count],
         &mut work[..4 * count],
     )?;
-    Ok(clamped_text(shape.width, red, green, blue))
+    Ok(clamped_text(Planes {
+        width: shape.width,
+        red,
+        green,
+        blue,
+    }))
 }
 
 // The text of what read finds in a file, with room for 1,024 samples; or the refusal.

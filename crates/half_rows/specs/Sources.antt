@@ -23,7 +23,7 @@ abbrev pub four_entries : List ℤ → ℕ → ℕ → List ℤ → ℕ → List
 four_entries work east south n k =
     get_or work (east + k + 1) (pos 0) ∷ get_or work (east + k) (pos 0) ∷ get_or work (south + k) (pos 0) ∷ get_or n (k + 4) (pos 0) ∷ []
 
--- what `SiteGradients::at` is asked for count sites, and that what it reads is four gradients
+-- of a `SiteGradients` of count sites: what `at` reads of each lies in the buffers, and is four gradients
 pub record GradientsFit (count east south : ℕ) (work n : List ℤ) : Type 0 where
   pub few : count ≤ 2048
   pub east_in : east + count + 1 ≤ length work

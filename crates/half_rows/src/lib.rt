@@ -1,4 +1,5 @@
-// Half rows: copied from a buffer between reflected entries, stored to one, and the four gradients of a site read from them.
+// Half rows: copied from a buffer between reflected entries, stored to one, and the four gradients of a site read from them. A half row is an
+// array of one size with the count of its sites beside it, since the module has no heap.
 #![tactic(auto)]
 
 ghost use Rattle.std.specs.Prelude.{◌≡◌, ℕ, ◌+◌, ◌*◌, ◌-◌, ◌/◌, ◌%◌, ◌<◌, ◌≤◌, pos, length, get_or};
@@ -6,7 +7,7 @@ ghost use Rattle.toolkit.specs.Entries.{Entries};
 ghost use Rattle.toolkit.specs.Writes.{Wrote};
 ghost use Rattle.frame.specs.Sites.{reflect};
 ghost use Rattle.positions.specs.HalfRows.{half_count};
-ghost use Rattle.half_rows.specs.Sources.{source_entry, north_entry, four_entries, NorthRoom};
+ghost use Rattle.half_rows.specs.Sources.{source_entry, north_entry, four_entries, GradientsFit, NorthRoom};
 
 use positions::Row;
 
@@ -35,30 +36,24 @@ pub struct Scratch {
     pub codes: [u8; 2048],
 }
 
-// Where the gradients of a half row of sites stand: E of the row from two columns west on, S, and N.
+// Where the gradients of count sites of a half row stand: E of the row from two columns west on, S, and N.
 #[derive(Clone, Copy)]
 pub struct SiteGradients<'a> {
     pub work: &'a [i32],
     pub east: usize,
     pub south: usize,
     pub north: &'a [i32; 2064],
+    pub count: usize,
+    pub ghost fit: { GradientsFit count east south work.now north.now },
 }
 
 impl SiteGradients<'_> {
-    // The four gradients of a site, E, W, S, N.
+    // The four gradients of a site.
     pub fn at(self, k: usize) -> [i64; 4]
-        requires { (k < 2048) × (self.east + k + 1 < length self.work.now) × (self.south + k < length self.work.now)
-            × (length self.work.now ≤ 67108864) }
+        requires { k < self.count }
         ensures { result ≡ four_entries self.entry.work.now self.entry.east self.entry.south self.entry.north.now k }
     {
-        let west_at = self.east + k;
-        let east_at = west_at + 1;
-        [
-            i64::from(self.work[east_at]),
-            i64::from(self.work[west_at]),
-            i64::from(self.work[self.south + k]),
-            i64::from(self.north[k + 4]),
-        ]
+        four(self.work, self.east, self.south, self.north, k)
     }
 }
 
@@ -120,4 +115,19 @@ pub fn north(tops: &[i32], work: &[i32], row: Row, at: usize, count: usize, n: &
         };
         copy(work, records::south_at(two_up) + at, count, n);
     }
+}
+
+// The four gradients of a site, E, W, S, N: E of the half row stands from two columns west on.
+pub fn four(work: &[i32], east: usize, south: usize, n: &[i32; 2064], k: usize) -> [i64; 4]
+    requires { (k < 2048) × (east + k + 1 < length work.now) × (south + k < length work.now) × (length work.now ≤ 67108864) }
+    ensures { result ≡ four_entries work.now east south n.now k }
+{
+    let west_at = east + k;
+    let east_at = west_at + 1;
+    [
+        i64::from(work[east_at]),
+        i64::from(work[west_at]),
+        i64::from(work[south + k]),
+        i64::from(n[k + 4]),
+    ]
 }

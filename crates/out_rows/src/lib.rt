@@ -130,6 +130,7 @@ pub fn direct_means(
         east: p.east,
         south: p.south,
         north: n,
+        count: rest,
     };
     for k in 0..rest {
         let g = gradients.at(k);

@@ -124,7 +124,7 @@ pub fn out_line(
     samples: &[u16; 98688],
     tops: &[i32],
     row: Row,
-    black: usize,
+    black: u8,
     work: &[i32],
     scratch: &mut Scratch,
     red: &mut [i32],
@@ -133,7 +133,7 @@ pub fn out_line(
 )
     requires some_samples { SomeSamples (λ (zs : List ℕ). OutLent (frame row.shape zs) row.index row.base samples.now tops.now work.now) }
     requires red_len { (length red.old ≡ row.shape.height * row.shape.width) × (length green.old ≡ row.shape.height * row.shape.width)
-        × (length blue.old ≡ row.shape.height * row.shape.width) × (black ≤ 255) }
+        × (length blue.old ≡ row.shape.height * row.shape.width) }
     ensures out_stores { OutStores row.shape black row.index row.base Colour.red samples.now tops.now work.now
         red.old red.new }
     ensures out_stores_2 { OutStores row.shape black row.index row.base Colour.green samples.now tops.now work.now

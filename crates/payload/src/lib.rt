@@ -29,22 +29,23 @@ fn pack_group(samples: &[u16], g: usize) -> [u8; 5]
     ])
 }
 
-// Packs samples, filled up with zeros, into a payload.
+// The payload of samples, filled up with zeros.
 #[tactic(auto, using(crate::proofs::Groups::stored_none, crate::proofs::Groups::stored_next, crate::proofs::Groups::stored_all))]
-pub fn pack_payload(samples: &[u16], payload: &mut [u8])
-    requires below { Below 1024 samples.now }
-    requires payload_len { length payload.old ≡ 500 }
-    ensures { payload.new ≡ packed_payload (filled_up samples.now) }
+pub fn pack_payload(samples: &[u16]) -> [u8; 500]
+    requires { Below 1024 samples.now }
+    ensures { result ≡ packed_payload (filled_up samples.now) }
 {
+    let mut payload = [0; 500];
     for g in 0..100 {
-        packing::store_bytes(payload, 5 * g, &pack_group(samples, g));
+        packing::store_bytes(&mut payload, 5 * g, &pack_group(samples, g));
     }
+    payload
 }
 
 // The four samples of group g of a payload.
 #[tactic(auto, using(crate::proofs::Groups::unpacked_group))]
-fn unpack_group(payload: &[u8], g: usize) -> [u16; 4]
-    requires { (length payload.now ≡ 500) × (g < 100) }
+fn unpack_group(payload: &[u8; 500], g: usize) -> [u16; 4]
+    requires { g < 100 }
     ensures { result ≡ unpacked (part payload.now (5 * g) 5) }
 {
     let k = 5 * g;
@@ -59,8 +60,8 @@ fn unpack_group(payload: &[u8], g: usize) -> [u16; 4]
 
 // Sample k of a payload.
 #[tactic(auto, using(crate::proofs::Groups::sample_of_group))]
-fn sample_at(payload: &[u8], k: usize) -> u16
-    requires { (length payload.now ≡ 500) × (k < 400) }
+fn sample_at(payload: &[u8; 500], k: usize) -> u16
+    requires { k < 400 }
     ensures { result ≡ get_or (unpacked_payload payload.now) k 0 }
 {
     unpack_group(payload, k / 4)[k % 4]
@@ -68,8 +69,8 @@ fn sample_at(payload: &[u8], k: usize) -> u16
 
 // Fills a slice with the first samples of a payload; of the last group only those that are left are stored.
 #[tactic(auto, using(crate::proofs::Groups::group_stored))]
-pub fn unpack_payload(payload: &[u8], samples: &mut [u16])
-    requires { (length payload.now ≡ 500) × (length samples.old ≤ 400) }
+pub fn unpack_payload(payload: &[u8; 500], samples: &mut [u16])
+    requires { length samples.old ≤ 400 }
     ensures { samples.new ≡ take (length samples.old) (unpacked_payload payload.now) }
 {
     // Whole groups apart: one loop that copies up to four samples was slower, since each copy's length varies.
@@ -84,8 +85,7 @@ pub fn unpack_payload(payload: &[u8], samples: &mut [u16])
 }
 
 // Whether the samples of a payload from position `from` on are all zero.
-pub fn zero_from(payload: &[u8], from: usize) -> bool
-    requires { length payload.now ≡ 500 }
+pub fn zero_from(payload: &[u8; 500], from: usize) -> bool
     ensures { result ≡ all_zero (drop from (unpacked_payload payload.now)) }
 {
     (from..400).all(|k| sample_at(payload, k) == 0)

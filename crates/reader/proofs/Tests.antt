@@ -6,7 +6,7 @@ use mathlib.Core.List.{List, [], ◌∷◌}
 use Prim.Native.Nat.{ℕ, suc, ◌+◌, ◌*◌, ◌-◌, ◌%◌, ◌≤◌, ◌<◌}
 use native.Mathlib.Numerals.{add-one}
 use native.Mathlib.Omega.{arith}
-use lib.ListN.{length, take, drop}
+use lib.ListN.{length, drop}
 use lib.Dec.{eqb}
 use Rattle.std.specs.List.{list_all}
 use borrow.Author.Tests.{ne_eqb}
@@ -17,7 +17,7 @@ use Rattle.frame.specs.declared.Refusal.TheVariants.{FileLength, Header, Filler}
 use Rattle.frame.specs.Calls.{and_then, Answer, no_refusal}
 use Rattle.admission.specs.ShapeTest.{shape_allowed}
 use Rattle.block.specs.BlockTest.{block_answer}
-use Rattle.frame_file.specs.Lists.{slice_part, part_part, all_zero}
+use Rattle.frame_file.specs.Lists.{all_zero}
 use Rattle.frame_file.specs.FrameFile.{block, block_filler, has_tag, header, header_filler, payload, unpacked_payload, length_allowed, header_allowed, filler_holds}
 use Rattle.frame_file.proofs.BlockCount.{some_blocks, block_starts}
 use Rattle.reader.specs.ReadSteps.{header_answer, first_answer, later_answer, later_answers}
@@ -78,29 +78,17 @@ module _ (file : List ℕ) where
 
 -- ---- block n, from 1
 
-block_slice : (file : List ℕ) (n : ℕ) → take (512 * n + 512 - 512 * n) (drop (512 * n) file) ≡ block file n
-unfolding block
-block_slice file n = slice_part file (512 * n) 512
-
-filler_slice : (file : List ℕ) (n : ℕ) → take (512 * n + 508 - (512 * n + 504)) (drop (512 * n + 504) file) ≡ block_filler (block file n)
-unfolding block block_filler
-filler_slice file n =
-    let e : 512 * n + 508 ≡ 512 * n + 504 + 4 = omega arith in
-    ap (λ (k : ℕ). take (k - (512 * n + 504)) (drop (512 * n + 504) file)) e ∙ slice_part file (512 * n + 504) 4
-    ∙ sym (part_part file (512 * n) 512 504 4 (omega arith))
-
-module _ (file : List ℕ) (m n : ℕ) {answer : Answer}
-    (ea : answer ≡ block_answer (take (512 * n + 512 - 512 * n) (drop (512 * n) file)) n) where
+module _ (file : List ℕ) (m n : ℕ) {b : List ℕ} (eb : b ≡ block file n) {answer : Answer} (ea : answer ≡ block_answer b n) where
   answer_is : block_answer (block file n) n ≡ answer
-  answer_is = sym (ea ∙ ap (λ (b : List ℕ). block_answer b n) (block_slice file n))
+  answer_is = sym (ea ∙ ap (λ (b : List ℕ). block_answer b n) eb)
 
   pub later_refused : (why : Refusal) → answer ≡ Err why → Err why ≡ later_answer file m n
   unfolding later_answer
   later_refused why e = rw (answer_is ∙ e)
 
-  module _ (done : answer ≡ no_refusal) {z : Bool} (ez : z ≡ all_zero (take (512 * n + 508 - (512 * n + 504)) (drop (512 * n + 504) file))) where
+  module _ (done : answer ≡ no_refusal) {z : Bool} (ez : z ≡ all_zero (block_filler b)) where
     bytes_are : all_zero (block_filler (block file n)) ≡ z
-    bytes_are = sym (ez ∙ ap all_zero (filler_slice file n))
+    bytes_are = sym (ez ∙ ap (λ (b : List ℕ). all_zero (block_filler b)) eb)
 
     pub bytes_refused : z ≡ false → Err (Filler n) ≡ later_answer file m n
     unfolding later_answer filler_holds

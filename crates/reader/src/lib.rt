@@ -1,7 +1,7 @@
 // Reads a frame file. All blocks are tested before the first sample is stored.
 #![tactic(auto)]
 
-ghost use Rattle.std.specs.Prelude.{◌≡◌, ◌+◌, ◌*◌, ◌-◌, ◌<◌, ◌≤◌, length};
+ghost use Rattle.std.specs.Prelude.{◌≡◌, ◌+◌, ◌*◌, ◌-◌, ◌≤◌, length};
 ghost use Rattle.frame_file.specs.Lists.{all_zero};
 ghost use Rattle.frame_file.specs.FrameFile.{header, block_count, stored_samples, read_answer, samples_after_read};
 ghost use Rattle.reader.specs.ReadSteps.{header_answer, first_answer, later_answer, later_answers};
@@ -17,8 +17,7 @@ fn zero(bytes: &[u8]) -> bool
 
 // W, H and the phase that block 0 holds.
 #[tactic(auto, unfolding(frame_file::specs::FrameFile::header))]
-fn header_of(block: &[u8]) -> Shape
-    requires { length block.now ≡ 512 }
+fn header_of(block: &[u8; 512]) -> Shape
     ensures { result ≡ header block.now }
 {
     Shape {
@@ -30,8 +29,7 @@ fn header_of(block: &[u8]) -> Shape
 
 // Block 0 for 8, 10.
 #[tactic(auto, using(crate::proofs::Tests::header_laws), unfolding(frame_file::specs::Lists::part, frame_file::specs::FrameFile::header_filler))]
-fn test_header(block: &[u8]) -> Answer
-    requires { length block.now ≡ 512 }
+fn test_header(block: &[u8; 512]) -> Answer
     ensures { result ≡ header_answer block.now }
 {
     if !block::tagged(block) || !admission::shape_in_range(header_of(block)) {
@@ -44,26 +42,27 @@ fn test_header(block: &[u8]) -> Answer
 }
 
 // The length, then block 0 for 7, 9, 8, 10.
-#[tactic(auto, using(crate::proofs::Tests::first_laws), unfolding(frame_file::specs::Lists::part, frame_file::specs::FrameFile::block))]
+#[tactic(auto, using(crate::proofs::Tests::first_laws))]
 fn test_first(file: &[u8]) -> Answer
     ensures { result ≡ first_answer file.now }
 {
     if file.len() < 512 || file.len() % 512 != 0 {
         return Err(Refusal::FileLength);
     }
-    block::test_block(&file[0..512], 0)?;
-    test_header(&file[0..512])
+    let first = block::at(file, 0);
+    block::test_block(first, 0)?;
+    test_header(first)
 }
 
 // Block n, from 1, for 7, 9, 10, in the file of a frame of so many samples.
-#[tactic(auto, using(crate::proofs::Tests::later_laws))]
+#[tactic(auto, using(crate::proofs::Tests::later_laws), unfolding(frame_file::specs::Lists::part, frame_file::specs::FrameFile::block_filler))]
 fn test_later(file: &[u8], samples: usize, n: usize) -> Answer
     requires { (1 ≤ n) × (512 * n + 512 ≤ length file.now) × (400 * (n - 1) ≤ samples) }
     ensures { result ≡ later_answer file.now samples n }
 {
-    let start = 512 * n;
-    block::test_block(&file[start..start + 512], n)?;
-    if !zero(&file[start + 504..start + 508]) {
+    let block = block::at(file, n);
+    block::test_block(block, n)?;
+    if !zero(&block[504..508]) {
         return Err(Refusal::Filler(n));
     }
     if !payload::zero_from(block::payload(file, n), samples - 400 * (n - 1)) {
@@ -104,7 +103,7 @@ pub fn read(file: &[u8], samples: &mut [u16]) -> ReadAnswer
     ensures left { samples.new ≡ samples_after_read file.now samples.old }
 {
     test_first(file)?;
-    let shape = header_of(&file[0..512]);
+    let shape = header_of(block::at(file, 0));
     let count = admission::sample_count(shape);
     let blocks = block::count_for(count);
     let size = 512 * blocks;

@@ -14,6 +14,7 @@ ghost use Rattle.second_pass.specs.Picked.{picked, picked_entry, code_entry, map
 
 use frame::Shape;
 use half_rows::{Scratch, ThreeWays};
+use sums::TrialPlanes;
 
 // r_H, of which r_D is the mean with r_V.
 fn across_row(rd: &[i32; 2064], rv: &[i32; 2064], rh: &mut [i32; 2064], count: usize)
@@ -26,25 +27,18 @@ fn across_row(rd: &[i32; 2064], rv: &[i32; 2064], rh: &mut [i32; 2064], count: u
     }
 }
 
-// The half rows of row i: r_H and r_D between reflected entries, and r_V.
-fn trial_rows(
-    diagonals: &[i32],
-    verticals: &[i32],
-    shape: Shape,
-    i: usize,
-    c: usize,
-    count: usize,
-    trials: &mut ThreeWays,
-)
-    requires some_samples { SomeSamples (λ (zs : List ℕ). SecondReads (frame shape zs) i diagonals.now verticals.now) }
-    requires c_value { (c ≡ chroma_start shape.phase i) × (c ≤ 1) × (count ≡ half_count shape.width c) × (count ≤ 2048) }
-    ensures { RowsFormed shape i diagonals.now verticals.now trials.new.across
+// The half rows of the row: r_H and r_D between reflected entries, and r_V.
+fn trial_rows(planes: TrialPlanes<'_>, c: usize, trials: &mut ThreeWays)
+    requires some_samples { SomeSamples (λ (zs : List ℕ). SecondReads (frame planes.shape zs) planes.index planes.diagonals.now planes.verticals.now) }
+    requires c_value { (c ≡ chroma_start planes.shape.phase planes.index) × (c ≤ 1) × (planes.count ≤ 2048) }
+    ensures { RowsFormed planes.entry.shape planes.entry.index planes.entry.diagonals.now planes.entry.verticals.now trials.new.across
         trials.new.vertical trials.new.diagonal }
 {
-    let w = shape.width;
-    let at = i * w;
-    half_rows::copy(diagonals, at, count, &mut trials.diagonal);
-    half_rows::copy(verticals, at, count, &mut trials.vertical);
+    let w = planes.shape.width;
+    let count = planes.count;
+    let at = planes.index * w;
+    half_rows::copy(planes.diagonals, at, count, &mut trials.diagonal);
+    half_rows::copy(planes.verticals, at, count, &mut trials.vertical);
     across_row(
         &trials.diagonal,
         &trials.vertical,
@@ -80,6 +74,7 @@ fn resolution(fh: i32, fv: i32, fd: i32) -> Choice
 impl Choice {
     ghost use Rattle.second_pass.specs.Choices.{one_of};
 
+    // The entry of the map.
     fn code(self) -> u8
         ensures { result ≡ one_of self 4 5 6 }
     {
@@ -102,14 +97,14 @@ impl Choice {
 }
 
 // The code of a site: that of the first pass, and where it left the site weak the second's. Formed before the choice, as in `taken`.
-// Codes are numbers, since they are entries of the map, which C reads.
+// Codes are numbers, since they are entries of the map: it alone holds them between the two passes, and C reads it.
 fn resolve(first: u8, second: u8) -> u8
     ensures { result ≡ cond (ltb first 4) first second }
 {
     if first < 4 { first } else { second }
 }
 
-// The difference that was picked for a site, and the code of how its green was found.
+// The difference that was picked for a site, and the code of how its green was found, a number as the entry of the map is.
 #[derive(Drop)]
 pub struct Picked {
     pub difference: i32,
@@ -204,8 +199,15 @@ pub fn second_line(
     let trials = &mut scratch.trials;
     let sums = &mut scratch.sums;
     let codes = &mut scratch.codes;
-    trial_rows(diagonals, verticals, shape, i, c, count, trials);
-    sums::sum_row(diagonals, verticals, shape, i, count, 3, trials, sums);
+    let planes = TrialPlanes {
+        diagonals,
+        verticals,
+        shape,
+        index: i,
+        count,
+    };
+    trial_rows(planes, c, trials);
+    sums::sum_row(planes, 3, trials, sums);
     second_row(trials, sums, map, out, codes, i * w, count);
     map_row(codes, map, i * w, c, w);
 }

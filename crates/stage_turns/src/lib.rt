@@ -12,29 +12,40 @@ use half_rows::Scratch;
 use mosaic_rows::LoadedRows;
 use positions::Row;
 
-// The row that lies so many rows behind row t, where that is one of the frame's.
-fn row_behind(t: usize, behind: usize, height: usize) -> Option<usize>
-    ensures { MatchOption result ((t < behind) ⊎ (height + behind ≤ t)) (λ i. (behind ≤ t) × (i ≡ t - behind) × (i < height)) }
-{
-    if t < behind {
-        return None;
+// Step t of the sweep over a frame, and a row at place 0 of the rings.
+#[derive(Clone, Copy)]
+pub struct Turn {
+    pub shape: Shape,
+    pub t: usize,
+    pub base: usize,
+}
+
+impl Turn {
+    // The row that lies so many rows behind row t, where that is one of the frame's.
+    fn row_behind(self, behind: usize) -> Option<usize>
+        ensures { MatchOption result ((self.t < behind) ⊎ (self.shape.height + behind ≤ self.t))
+            (λ i. (behind ≤ self.t) × (i ≡ self.t - behind) × (i < self.shape.height)) }
+    {
+        if self.t < behind {
+            return None;
+        }
+        let i = self.t - behind;
+        if i < self.shape.height { Some(i) } else { None }
     }
-    let i = t - behind;
-    if i < height { Some(i) } else { None }
 }
 
 // Row t of the mosaic, and its a.
-pub fn load_turn(mosaic: &[u16], shape: Shape, t: usize, base: usize, loaded: &mut LoadedRows)
-    requires taken { Taken (frame shape mosaic.now) }
-    requires round { Round base t t }
-    ensures { LoadTurned (frame shape mosaic.now) t loaded.old.samples loaded.new.samples loaded.old.alongs
+pub fn load_turn(mosaic: &[u16], turn: Turn, loaded: &mut LoadedRows)
+    requires taken { Taken (frame turn.shape mosaic.now) }
+    requires round { Round turn.base turn.t turn.t }
+    ensures { LoadTurned (frame turn.shape mosaic.now) turn.t loaded.old.samples loaded.new.samples loaded.old.alongs
         loaded.new.alongs }
 {
-    if t < shape.height {
+    if turn.t < turn.shape.height {
         let row = Row {
-            shape: shape,
-            index: t,
-            base: base,
+            shape: turn.shape,
+            index: turn.t,
+            base: turn.base,
         };
         first_stage::load_line(mosaic, row, loaded);
     }
@@ -43,9 +54,7 @@ pub fn load_turn(mosaic: &[u16], shape: Shape, t: usize, base: usize, loaded: &m
 // E, S, r_D, r_V and the codes of row t − 4.
 pub fn first_turn(
     loaded: &LoadedRows,
-    shape: Shape,
-    t: usize,
-    base: usize,
+    turn: Turn,
     scratch: &mut Scratch,
     tops: &mut [i32],
     work: &mut [i32],
@@ -53,18 +62,18 @@ pub fn first_turn(
     blue: &mut [i32],
     map: &mut [u8],
 )
-    requires some_samples { SomeSamples (λ (zs : List ℕ). FirstAsks (frame shape zs) t base loaded.now.samples loaded.now.alongs tops.old work.old) }
-    requires red_len { (length red.old ≡ shape.height * shape.width) × (length blue.old ≡ shape.height * shape.width)
-        × (length map.old ≡ shape.height * shape.width) }
-    ensures first_turned { FirstTurned shape t base loaded.now.samples loaded.now.alongs tops.old tops.new
+    requires some_samples { SomeSamples (λ (zs : List ℕ). FirstAsks (frame turn.shape zs) turn.t turn.base loaded.now.samples loaded.now.alongs tops.old work.old) }
+    requires red_len { (length red.old ≡ turn.shape.height * turn.shape.width) × (length blue.old ≡ turn.shape.height * turn.shape.width)
+        × (length map.old ≡ turn.shape.height * turn.shape.width) }
+    ensures first_turned { FirstTurned turn.shape turn.t turn.base loaded.now.samples loaded.now.alongs tops.old tops.new
         work.old work.new
         red.old red.new blue.old blue.new map.old map.new }
 {
-    if let Some(i) = row_behind(t, 4, shape.height) {
+    if let Some(i) = turn.row_behind(4) {
         let row = Row {
-            shape: shape,
+            shape: turn.shape,
             index: i,
-            base: base,
+            base: turn.base,
         };
         first_stage::first_line(loaded, row, scratch, tops, work, red, blue, map);
     }
@@ -74,62 +83,52 @@ pub fn first_turn(
 pub fn second_turn(
     red: &[i32],
     blue: &[i32],
-    shape: Shape,
-    t: usize,
+    turn: Turn,
     scratch: &mut Scratch,
     green: &mut [i32],
     map: &mut [u8],
 )
-    requires some_samples { SomeSamples (λ (zs : List ℕ). SecondAsks (frame shape zs) t red.now blue.now map.old) }
-    requires green_len { length green.old ≡ shape.height * shape.width }
-    ensures second_turned { SecondTurned shape t red.now blue.now green.old green.new
+    requires some_samples { SomeSamples (λ (zs : List ℕ). SecondAsks (frame turn.shape zs) turn.t red.now blue.now map.old) }
+    requires green_len { length green.old ≡ turn.shape.height * turn.shape.width }
+    ensures second_turned { SecondTurned turn.shape turn.t red.now blue.now green.old green.new
         map.old map.new }
 {
-    if let Some(i) = row_behind(t, 12, shape.height) {
-        second_pass::second_line(red, blue, shape, i, scratch, green, map);
+    if let Some(i) = turn.row_behind(12) {
+        second_pass::second_line(red, blue, turn.shape, i, scratch, green, map);
     }
 }
 
 // The final differences of row t − 14.
 pub fn enhance_turn(
     tops: &[i32],
-    shape: Shape,
+    turn: Turn,
     work: &mut [i32],
     green: &[i32],
-    t: usize,
-    base: usize,
     scratch: &mut Scratch,
 )
-    requires some_samples { SomeSamples (λ (zs : List ℕ). EnhanceAsks (frame shape zs) t base tops.now work.old green.now) }
-    ensures enhance_turned { EnhanceTurned shape t base tops.now green.now work.old work.new }
+    requires some_samples { SomeSamples (λ (zs : List ℕ). EnhanceAsks (frame turn.shape zs) turn.t turn.base tops.now work.old green.now) }
+    ensures enhance_turned { EnhanceTurned turn.shape turn.t turn.base tops.now green.now work.old work.new }
 {
-    if let Some(i) = row_behind(t, 14, shape.height) {
+    if let Some(i) = turn.row_behind(14) {
         let row = Row {
-            shape: shape,
+            shape: turn.shape,
             index: i,
-            base: base,
+            base: turn.base,
         };
         differences::enhance_line(tops, row, work, green, scratch);
     }
 }
 
 // The differences of the other colour of row t − 15.
-pub fn diagonal_turn(
-    tops: &[i32],
-    shape: Shape,
-    work: &mut [i32],
-    t: usize,
-    base: usize,
-    scratch: &mut Scratch,
-)
-    requires some_samples { SomeSamples (λ (zs : List ℕ). DiagonalAsks (frame shape zs) t base tops.now work.old) }
-    ensures diagonal_turned { DiagonalTurned shape t base tops.now work.old work.new }
+pub fn diagonal_turn(tops: &[i32], turn: Turn, work: &mut [i32], scratch: &mut Scratch)
+    requires some_samples { SomeSamples (λ (zs : List ℕ). DiagonalAsks (frame turn.shape zs) turn.t turn.base tops.now work.old) }
+    ensures diagonal_turned { DiagonalTurned turn.shape turn.t turn.base tops.now work.old work.new }
 {
-    if let Some(i) = row_behind(t, 15, shape.height) {
+    if let Some(i) = turn.row_behind(15) {
         let row = Row {
-            shape: shape,
+            shape: turn.shape,
             index: i,
-            base: base,
+            base: turn.base,
         };
         differences::diagonal_line(tops, row, work, scratch);
     }
@@ -139,31 +138,29 @@ pub fn diagonal_turn(
 pub fn out_turn(
     samples: &[u16; 98688],
     tops: &[i32],
-    shape: Shape,
-    black: usize,
+    turn: Turn,
+    black: u8,
     work: &[i32],
-    t: usize,
-    base: usize,
     scratch: &mut Scratch,
     red: &mut [i32],
     green: &mut [i32],
     blue: &mut [i32],
 )
-    requires some_samples { SomeSamples (λ (zs : List ℕ). OutAsks (frame shape zs) t base samples.now tops.now work.now) }
-    requires red_len { (length red.old ≡ shape.height * shape.width) × (length green.old ≡ shape.height * shape.width)
-        × (length blue.old ≡ shape.height * shape.width) × (black ≤ 255) }
-    ensures out_turned { OutTurned shape black t base Colour.red samples.now tops.now work.now red.old
+    requires some_samples { SomeSamples (λ (zs : List ℕ). OutAsks (frame turn.shape zs) turn.t turn.base samples.now tops.now work.now) }
+    requires red_len { (length red.old ≡ turn.shape.height * turn.shape.width) × (length green.old ≡ turn.shape.height * turn.shape.width)
+        × (length blue.old ≡ turn.shape.height * turn.shape.width) }
+    ensures out_turned { OutTurned turn.shape black turn.t turn.base Colour.red samples.now tops.now work.now red.old
         red.new }
-    ensures out_turned_2 { OutTurned shape black t base Colour.green samples.now tops.now work.now green.old
+    ensures out_turned_2 { OutTurned turn.shape black turn.t turn.base Colour.green samples.now tops.now work.now green.old
         green.new }
-    ensures out_turned_3 { OutTurned shape black t base Colour.blue samples.now tops.now work.now blue.old
+    ensures out_turned_3 { OutTurned turn.shape black turn.t turn.base Colour.blue samples.now tops.now work.now blue.old
         blue.new }
 {
-    if let Some(i) = row_behind(t, 20, shape.height) {
+    if let Some(i) = turn.row_behind(20) {
         let row = Row {
-            shape: shape,
+            shape: turn.shape,
             index: i,
-            base: base,
+            base: turn.base,
         };
         out_stage::out_line(samples, tops, row, black, work, scratch, red, green, blue);
     }

@@ -1,7 +1,7 @@
 // The sums of the second pass, over half rows.
 #![tactic(auto)]
 
-ghost use Rattle.std.specs.Prelude.{◌≡◌, List, ℕ, ◌+◌, ◌*◌, ◌-◌, ◌<◌, ◌≤◌, pos, nat_abs, ◌+ℤ◌, length};
+ghost use Rattle.std.specs.Prelude.{◌≡◌, List, ℕ, ◌+◌, ◌*◌, ◌-◌, ◌≤◌, pos, nat_abs, ◌+ℤ◌, length};
 ghost use Rattle.toolkit.specs.Entries.{Entries};
 ghost use Rattle.frame.specs.Sites.{frame};
 ghost use Rattle.method.specs.Gradients.{apart};
@@ -12,6 +12,17 @@ ghost use Rattle.sums.specs.Sums.{entries_of, with_columns, with_rows, with_both
 
 use frame::Shape;
 use half_rows::ThreeWays;
+
+// The planes of r_D and r_V of a frame, a row of it, and how many red and blue sites the row has.
+#[derive(Clone, Copy)]
+pub struct TrialPlanes<'a> {
+    pub diagonals: &'a [i32],
+    pub verticals: &'a [i32],
+    pub shape: Shape,
+    pub index: usize,
+    pub count: usize,
+    ghost sites: { count ≡ half_count shape.width (chroma_start shape.phase index) },
+}
 
 // A sum with the distances of x to y and to z.
 fn add_gaps(sum: i32, x: i32, y: i32, z: i32) -> i32
@@ -62,6 +73,7 @@ fn add_rows(
 }
 
 // Adds the distances of both kinds: to the entries t before and t behind, and to the rows of the plane that start at up and at down.
+// One pass over the sums: `add_columns` and then `add_rows` were tried, and take a sixth longer where the rows lie in the cache, as in a sweep.
 // The sums leave room for the first two distances: 917536 + 2 * 65520 = 1048576.
 fn add_both(
     row: &[i32; 2064],
@@ -87,27 +99,23 @@ fn add_both(
 }
 
 // One step of the three sums: t columns and t rows of the same colour further. What is picked in row i is read at most 4 rows away.
-fn add_step(
-    diagonals: &[i32],
-    verticals: &[i32],
-    shape: Shape,
-    i: usize,
-    count: usize,
-    t: usize,
-    trials: &ThreeWays,
-    sums: &mut ThreeWays,
-)
-    requires some_samples { SomeSamples (λ (zs : List ℕ). SumsRead (frame shape zs) i diagonals.now verticals.now trials.now.across trials.now.vertical trials.now.diagonal) }
-    requires count_value { (count ≡ half_count shape.width (chroma_start shape.phase i)) × (1 ≤ t) × (t ≤ 4) }
-    requires sums_room { SumsRoom ((t - 1) * 131040) count sums.old.across sums.old.vertical sums.old.diagonal }
-    ensures widens { Widens shape i (t - 1) t diagonals.now verticals.now trials.now.across trials.now.vertical trials.now.diagonal
+fn add_step(planes: TrialPlanes<'_>, t: usize, trials: &ThreeWays, sums: &mut ThreeWays)
+    requires some_samples { SomeSamples (λ (zs : List ℕ). SumsRead (frame planes.shape zs) planes.index planes.diagonals.now planes.verticals.now trials.now.across trials.now.vertical trials.now.diagonal) }
+    requires t_bound { (1 ≤ t) × (t ≤ 4) }
+    requires sums_room { SumsRoom ((t - 1) * 131040) planes.count sums.old.across sums.old.vertical sums.old.diagonal }
+    ensures widens { Widens planes.entry.shape planes.entry.index (t - 1) t planes.entry.diagonals.now planes.entry.verticals.now trials.now.across trials.now.vertical trials.now.diagonal
         sums.old.across sums.old.vertical sums.old.diagonal sums.new.across sums.new.vertical sums.new.diagonal }
-    ensures sums_room_2 { SumsRoom (t * 131040) count sums.new.across sums.new.vertical sums.new.diagonal }
+    ensures sums_room_2 { SumsRoom (t * 131040) planes.entry.count sums.new.across sums.new.vertical sums.new.diagonal }
 {
-    let w = shape.width;
-    let h = shape.height;
-    let up = positions::row_above(h, i, 2 * t, 4) * w;
-    let down = positions::row_below(h, i, 2 * t, 4) * w;
+    let TrialPlanes {
+        diagonals,
+        verticals,
+        shape,
+        index,
+        count,
+    } = planes;
+    let up = positions::row_above(shape.height, index, 2 * t, 4) * shape.width;
+    let down = positions::row_below(shape.height, index, 2 * t, 4) * shape.width;
     let across = &mut sums.across;
     let vertical = &mut sums.vertical;
     let diagonal = &mut sums.diagonal;
@@ -117,47 +125,29 @@ fn add_step(
 }
 
 // All steps, from 1 to reach.
-fn add_steps(
-    diagonals: &[i32],
-    verticals: &[i32],
-    shape: Shape,
-    i: usize,
-    count: usize,
-    reach: usize,
-    trials: &ThreeWays,
-    sums: &mut ThreeWays,
-)
-    requires some_samples { SomeSamples (λ (zs : List ℕ). SumsRead (frame shape zs) i diagonals.now verticals.now trials.now.across trials.now.vertical trials.now.diagonal) }
-    requires count_value { (count ≡ half_count shape.width (chroma_start shape.phase i)) × (reach ≤ 4) }
-    requires sums_room { SumsRoom 0 count sums.old.across sums.old.vertical sums.old.diagonal }
-    ensures widens { Widens shape i 0 reach diagonals.now verticals.now trials.now.across trials.now.vertical trials.now.diagonal
+fn add_steps(planes: TrialPlanes<'_>, reach: usize, trials: &ThreeWays, sums: &mut ThreeWays)
+    requires some_samples { SomeSamples (λ (zs : List ℕ). SumsRead (frame planes.shape zs) planes.index planes.diagonals.now planes.verticals.now trials.now.across trials.now.vertical trials.now.diagonal) }
+    requires reach_bound { reach ≤ 4 }
+    requires sums_room { SumsRoom 0 planes.count sums.old.across sums.old.vertical sums.old.diagonal }
+    ensures widens { Widens planes.entry.shape planes.entry.index 0 reach planes.entry.diagonals.now planes.entry.verticals.now trials.now.across trials.now.vertical trials.now.diagonal
         sums.old.across sums.old.vertical sums.old.diagonal sums.new.across sums.new.vertical sums.new.diagonal }
-    ensures sums_room_2 { SumsRoom 524160 count sums.new.across sums.new.vertical sums.new.diagonal }
+    ensures sums_room_2 { SumsRoom 524160 planes.entry.count sums.new.across sums.new.vertical sums.new.diagonal }
 {
     for t in 1..reach + 1 {
-        add_step(diagonals, verticals, shape, i, count, t, trials, sums);
+        add_step(planes, t, trials, sums);
     }
 }
 
 // The three sums of the red and blue sites of row i: FH and FV are twice the first two.
-pub fn sum_row(
-    diagonals: &[i32],
-    verticals: &[i32],
-    shape: Shape,
-    i: usize,
-    count: usize,
-    reach: usize,
-    trials: &ThreeWays,
-    sums: &mut ThreeWays,
-)
-    requires some_samples { SomeSamples (λ (zs : List ℕ). SumsRead (frame shape zs) i diagonals.now verticals.now trials.now.across trials.now.vertical trials.now.diagonal) }
-    requires count_value { (count ≡ half_count shape.width (chroma_start shape.phase i)) × (reach ≤ 4) }
-    ensures summed { Summed shape i reach diagonals.now verticals.now trials.now.across trials.now.vertical trials.now.diagonal
+pub fn sum_row(planes: TrialPlanes<'_>, reach: usize, trials: &ThreeWays, sums: &mut ThreeWays)
+    requires some_samples { SomeSamples (λ (zs : List ℕ). SumsRead (frame planes.shape zs) planes.index planes.diagonals.now planes.verticals.now trials.now.across trials.now.vertical trials.now.diagonal) }
+    requires reach_bound { reach ≤ 4 }
+    ensures summed { Summed planes.entry.shape planes.entry.index reach planes.entry.diagonals.now planes.entry.verticals.now trials.now.across trials.now.vertical trials.now.diagonal
         sums.new.across sums.new.vertical sums.new.diagonal }
-    ensures sums_room { SumsRoom 524160 count sums.new.across sums.new.vertical sums.new.diagonal }
+    ensures sums_room { SumsRoom 524160 planes.entry.count sums.new.across sums.new.vertical sums.new.diagonal }
 {
-    clear(&mut sums.across, count);
-    clear(&mut sums.vertical, count);
-    clear(&mut sums.diagonal, count);
-    add_steps(diagonals, verticals, shape, i, count, reach, trials, sums);
+    clear(&mut sums.across, planes.count);
+    clear(&mut sums.vertical, planes.count);
+    clear(&mut sums.diagonal, planes.count);
+    add_steps(planes, reach, trials, sums);
 }

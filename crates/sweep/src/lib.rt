@@ -13,14 +13,13 @@ ghost use Rattle.sweep.specs.Invariant.{Sweep};
 use frame::Shape;
 use half_rows::{Scratch, ThreeWays};
 use mosaic_rows::LoadedRows;
+use stage_turns::Turn;
 
 // One step: a turn of each stage.
 fn step(
     mosaic: &[u16],
-    shape: Shape,
-    black: usize,
-    t: usize,
-    base: usize,
+    turn: Turn,
+    black: u8,
     loaded: &mut LoadedRows,
     scratch: &mut Scratch,
     tops: &mut [i32],
@@ -30,26 +29,24 @@ fn step(
     blue: &mut [i32],
     map: &mut [u8],
 )
-    requires sweep { Sweep (frame shape mosaic.now) black t t t t t tops.old work.old red.old green.old blue.old map.old }
-    requires mosaic_kept { (MosaicKept (frame shape mosaic.now) t loaded.old.samples loaded.old.alongs)
-        × (Round base (t - 24) t) × (black ≤ 255) }
-    ensures sweep_2 { Sweep (frame shape mosaic.now) black (t + 1) (t + 1) (t + 1) (t + 1) (t + 1) tops.new
+    requires sweep { Sweep (frame turn.shape mosaic.now) black turn.t turn.t turn.t turn.t turn.t tops.old work.old red.old green.old blue.old map.old }
+    requires mosaic_kept { (MosaicKept (frame turn.shape mosaic.now) turn.t loaded.old.samples loaded.old.alongs)
+        × (Round turn.base (turn.t - 24) turn.t) }
+    ensures sweep_2 { Sweep (frame turn.shape mosaic.now) black (turn.t + 1) (turn.t + 1) (turn.t + 1) (turn.t + 1) (turn.t + 1) tops.new
         work.new red.new green.new blue.new map.new }
-    ensures mosaic_kept_2 { MosaicKept (frame shape mosaic.now) (t + 1) loaded.new.samples loaded.new.alongs }
+    ensures mosaic_kept_2 { MosaicKept (frame turn.shape mosaic.now) (turn.t + 1) loaded.new.samples loaded.new.alongs }
 {
-    stage_turns::load_turn(mosaic, shape, t, base, loaded);
-    stage_turns::first_turn(loaded, shape, t, base, scratch, tops, work, red, blue, map);
-    stage_turns::second_turn(red, blue, shape, t, scratch, green, map);
-    stage_turns::enhance_turn(tops, shape, work, green, t, base, scratch);
-    stage_turns::diagonal_turn(tops, shape, work, t, base, scratch);
+    stage_turns::load_turn(mosaic, turn, loaded);
+    stage_turns::first_turn(loaded, turn, scratch, tops, work, red, blue, map);
+    stage_turns::second_turn(red, blue, turn, scratch, green, map);
+    stage_turns::enhance_turn(tops, turn, work, green, scratch);
+    stage_turns::diagonal_turn(tops, turn, work, scratch);
     stage_turns::out_turn(
         &loaded.samples,
         tops,
-        shape,
+        turn,
         black,
         work,
-        t,
-        base,
         scratch,
         red,
         green,
@@ -61,7 +58,7 @@ fn step(
 fn steps(
     mosaic: &[u16],
     shape: Shape,
-    black: usize,
+    black: u8,
     loaded: &mut LoadedRows,
     scratch: &mut Scratch,
     tops: &mut [i32],
@@ -72,7 +69,7 @@ fn steps(
     map: &mut [u8],
 )
     requires sweep { Sweep (frame shape mosaic.now) black 0 0 0 0 0 tops.old work.old red.old green.old blue.old map.old }
-    requires mosaic_kept { (MosaicKept (frame shape mosaic.now) 0 loaded.old.samples loaded.old.alongs) × (black ≤ 255) }
+    requires mosaic_kept { MosaicKept (frame shape mosaic.now) 0 loaded.old.samples loaded.old.alongs }
     ensures { (red.new ≡ plane (frame shape mosaic.now) black Colour.red)
         × (green.new ≡ plane (frame shape mosaic.now) black Colour.green)
         × (blue.new ≡ plane (frame shape mosaic.now) black Colour.blue)
@@ -80,18 +77,24 @@ fn steps(
 {
     let mut base = 0;
     for t in 0..shape.height + 20 {
+        let turn = Turn {
+            shape: shape,
+            t: t,
+            base: base,
+        };
         step(
-            mosaic, shape, black, t, base, loaded, scratch, tops, work, red, green, blue, map,
+            mosaic, turn, black, loaded, scratch, tops, work, red, green, blue, map,
         );
         base = positions::next_base(t, base);
     }
 }
 
-// The planes of a frame at a black level, and its map. The local rows are made once.
+// The planes of a frame at a black level, and its map. The local rows are made once. tops is local and work is lent, so they stay apart: a
+// struct of both would hold a lent slice (develop, `run`).
 pub fn sweep(
     mosaic: &[u16],
     shape: Shape,
-    black: usize,
+    black: u8,
     red: &mut [i32],
     green: &mut [i32],
     blue: &mut [i32],
@@ -101,7 +104,7 @@ pub fn sweep(
     requires taken { Taken (frame shape mosaic.now) }
     requires red_len { (length red.old ≡ shape.height * shape.width) × (length green.old ≡ shape.height * shape.width)
         × (length blue.old ≡ shape.height * shape.width) × (length map.old ≡ shape.height * shape.width)
-        × (length work.old ≡ shape.height * (4 * shape.width)) × (black ≤ 255) }
+        × (length work.old ≡ shape.height * (4 * shape.width)) }
     ensures { (red.new ≡ plane (frame shape mosaic.now) black Colour.red)
         × (green.new ≡ plane (frame shape mosaic.now) black Colour.green)
         × (blue.new ≡ plane (frame shape mosaic.now) black Colour.blue)

@@ -4,8 +4,7 @@ use mathlib.Core.List.{List, [], ◌++◌, append_assoc, append-nil}
 use Prim.Native.Nat.{ℕ, ◌+◌, ◌-◌, ◌≤◌}
 use native.Mathlib.Omega.{arith}
 use lib.ListN.{length, take, drop, length-append, drop_of_length-le}
-use lib.Seq.{take_at, drop-drop}
-use borrow.Rule.Slice.PartMut.{put_mid}
+use lib.Seq.{take_at}
 use Rattle.frame.specs.declared.Shape.{Shape}
 use Rattle.frame_file.specs.Lists.{part, get_d_front, zeros, length_zeros, drop_zeros, zeros_append, length_part, put_at, put_at_next}
 use Rattle.frame_file.specs.FrameFile.{little_endian_bytes, check, tag, packed_payload, with_check, header_bytes, sample_bytes}
@@ -51,36 +50,29 @@ header_filled shape front e =
     ∙ ap (λ (t : List ℕ). t ++ zeros 495) e
     ∙ sym (header_parts shape)
 
-pub header_composed : (shape : Shape) (front b b1 b2 : List ℕ) → b ≡ zeros 512 → front ≡ part (header_bytes shape) 0 13
-    → b1 ≡ put_at b 0 front → b2 ≡ with_check (part b1 0 508) → b2 ≡ with_check (header_bytes shape)
-header_composed shape front b b1 b2 e ef e1 e2 =
-    e2 ∙ ap with_check (ap (λ (t : List ℕ). part t 0 508) (e1 ∙ ap (λ (t : List ℕ). put_at t 0 front) e) ∙ header_filled shape front ef)
-
-middle_put : (l m : List ℕ) → length m ≡ 500 → put_mid 4 500 l m ≡ put_at l 4 m
-unfolding put_at
-middle_put l m e = ap (λ (t : List ℕ). take 4 l ++ (m ++ t)) (drop-drop 500 4 l ∙ ap (λ (n : ℕ). drop (4 + n) l) (sym e))
+pub header_composed : (shape : Shape) (front b1 b2 : List ℕ) → front ≡ part (header_bytes shape) 0 13 → b1 ≡ put_at (zeros 512) 0 front
+    → b2 ≡ with_check (part b1 0 508) → b2 ≡ with_check (header_bytes shape)
+header_composed shape front b1 b2 ef e1 e2 =
+    e2 ∙ ap with_check (ap (λ (t : List ℕ). part t 0 508) e1 ∙ header_filled shape front ef)
 
 samples_filled : (n : ℕ) (samples number bytes : List ℕ) → number ≡ little_endian_bytes 4 n → bytes ≡ packed_payload samples
-    → part (put_mid 4 500 (put_at (zeros 512) 0 number) bytes) 0 508 ≡ sample_bytes n samples
+    → part (put_at (put_at (zeros 512) 0 number) 4 bytes) 0 508 ≡ sample_bytes n samples
 unfolding sample_bytes
 samples_filled n samples number bytes en eb =
     let four : length number ≡ 4 = ap length en ∙ length_little_endian_bytes 4 n in
     let all : length bytes ≡ 500 = ap length eb ∙ length_packed_payload samples in
     let size : length (number ++ bytes) ≡ 504 = omega (arith, length-append number bytes) in
     ap (λ (t : List ℕ). part t 0 508)
-    (middle_put (put_at (zeros 512) 0 number) bytes all
-    ∙ ap (λ (t : List ℕ). put_at t 4 bytes) (put_first (zeros 512) number ∙ ap (λ (k : ℕ). number ++ drop k (zeros 512)) four)
+    (ap (λ (t : List ℕ). put_at t 4 bytes) (put_first (zeros 512) number ∙ ap (λ (k : ℕ). number ++ drop k (zeros 512)) four)
     ∙ put_at_next number (zeros 512) bytes 4 four
     ∙ ap (λ (k : ℕ). (number ++ bytes) ++ drop (4 + k) (zeros 512)) all)
     ∙ filled_block (number ++ bytes) 504 4 size refl
     ∙ append_assoc number bytes (zeros 4)
     ∙ ap₂ (λ (s t : List ℕ). s ++ (t ++ zeros 4)) en eb
 
-pub samples_composed : (n : ℕ) (samples number bytes b b1 b2 : List ℕ) → b ≡ zeros 512 → number ≡ little_endian_bytes 4 n
-    → bytes ≡ packed_payload samples
-    → b1 ≡ put_at b 0 number → b2 ≡ with_check (part (put_mid 4 500 b1 bytes) 0 508) → b2 ≡ with_check (sample_bytes n samples)
-samples_composed n samples number bytes b b1 b2 e en eb e1 e2 =
-    e2
-    ∙ ap with_check
-    (ap (λ (t : List ℕ). part (put_mid 4 500 t bytes) 0 508) (e1 ∙ ap (λ (t : List ℕ). put_at t 0 number) e)
-    ∙ samples_filled n samples number bytes en eb)
+pub samples_composed : (n : ℕ) (samples number bytes b1 b2 b3 : List ℕ) → number ≡ little_endian_bytes 4 n → bytes ≡ packed_payload samples
+    → b1 ≡ put_at (zeros 512) 0 number → b2 ≡ put_at b1 4 bytes → b3 ≡ with_check (part b2 0 508)
+    → b3 ≡ with_check (sample_bytes n samples)
+samples_composed n samples number bytes b1 b2 b3 en eb e1 e2 e3 =
+    let filled : b2 ≡ put_at (put_at (zeros 512) 0 number) 4 bytes = rw (e2, e1) refl in
+    e3 ∙ ap with_check (ap (λ (t : List ℕ). part t 0 508) filled ∙ samples_filled n samples number bytes en eb)

@@ -1,9 +1,9 @@
 // Writes a frame file, block by block.
 #![tactic(auto)]
 
-ghost use Rattle.std.specs.Prelude.{◌≡◌, ◌+◌, ◌*◌, ◌-◌, ◌<◌, ◌≤◌, length};
+ghost use Rattle.std.specs.Prelude.{◌≡◌, ◌*◌, ◌-◌, ◌≤◌, length};
 ghost use Rattle.frame.specs.Sites.{frame as frame_of};
-ghost use Rattle.frame_file.specs.Lists.{Below, part, zeros, put_at};
+ghost use Rattle.frame_file.specs.Lists.{Below, part};
 ghost use Rattle.frame_file.specs.FrameFile.{filled_up, with_check, header_bytes, sample_bytes, written_file, write_answer, file_after_write};
 ghost use Rattle.writer.specs.Ready.{Ready};
 
@@ -30,53 +30,27 @@ fn store_check(b: &mut [u8; 512])
     packing::store_bytes(b, 508, &check);
 }
 
-// Fills 512 zero bytes with block 0.
-#[tactic(auto, using(crate::proofs::Blocks::header_composed))]
-fn fill_header(b: &mut [u8; 512], shape: Shape)
-    requires b_zero { b.old ≡ zeros 512 }
-    requires phase_bound { shape.phase ≤ 3 }
-    ensures { b.new ≡ with_check (header_bytes shape) }
+// Block 0, composed in 512 zero bytes.
+fn header_block(shape: Shape) -> [u8; 512]
+    requires { shape.phase ≤ 3 }
+    ensures { result ≡ with_check (header_bytes shape) }
 {
-    let front = header_front(shape);
-    packing::store_bytes(b, 0, &front);
-    store_check(b);
+    let mut b = [0; 512];
+    packing::store_bytes(&mut b, 0, &header_front(shape));
+    store_check(&mut b);
+    b
 }
 
-// Fills 512 zero bytes with block n: number, payload, check.
-#[tactic(auto, using(crate::proofs::Blocks::samples_composed))]
-fn fill_samples(b: &mut [u8; 512], samples: &[u16], n: usize)
-    requires b_zero { b.old ≡ zeros 512 }
-    requires below { Below 1024 samples.now }
-    ensures { b.new ≡ with_check (sample_bytes n (filled_up samples.now)) }
+// Block n, from 1, composed in 512 zero bytes: number, payload, check.
+fn samples_block(samples: &[u16], n: usize) -> [u8; 512]
+    requires { Below 1024 samples.now }
+    ensures { result ≡ with_check (sample_bytes n (filled_up samples.now)) }
 {
-    let number = block::bytes4(n);
-    packing::store_bytes(b, 0, &number);
-    payload::pack_payload(samples, &mut b[4..504]);
-    store_check(b);
-}
-
-// Composes block 0 in 512 zero bytes and copies it out.
-#[tactic(auto, unfolding(frame_file::specs::Lists::zeros))]
-fn write_header(file: &mut [u8], shape: Shape)
-    requires in_bounds { 512 ≤ length file.old }
-    requires phase_bound { shape.phase ≤ 3 }
-    ensures { file.new ≡ put_at file.old 0 (with_check (header_bytes shape)) }
-{
-    let mut b = [0u8; 512];
-    fill_header(&mut b, shape);
-    packing::store_bytes(file, 0, &b);
-}
-
-// Composes block n in 512 zero bytes and copies it out.
-#[tactic(auto, unfolding(frame_file::specs::Lists::zeros))]
-fn write_samples(file: &mut [u8], samples: &[u16], n: usize)
-    requires n_bound { (n < 65536) × (512 * n + 512 ≤ length file.old) }
-    requires below { Below 1024 samples.now }
-    ensures { file.new ≡ put_at file.old (512 * n) (with_check (sample_bytes n (filled_up samples.now))) }
-{
-    let mut b = [0u8; 512];
-    fill_samples(&mut b, samples, n);
-    packing::store_bytes(file, 512 * n, &b);
+    let mut b = [0; 512];
+    packing::store_bytes(&mut b, 0, &block::bytes4(n));
+    packing::store_bytes(&mut b, 4, &payload::pack_payload(samples));
+    store_check(&mut b);
+    b
 }
 
 // The samples of block n, from 1, as a part of the mosaic.
@@ -94,9 +68,9 @@ fn write_blocks(file: &mut [u8], shape: Shape, mosaic: &[u16])
     ensures { file.new ≡ written_file (frame_of shape mosaic.now) }
 {
     let count = block::count_for(mosaic.len());
-    write_header(file, shape);
+    packing::store_bytes(file, 0, &header_block(shape));
     for n in 1..count {
-        write_samples(file, samples_of(mosaic, n), n);
+        packing::store_bytes(file, 512 * n, &samples_block(samples_of(mosaic, n), n));
     }
 }
 

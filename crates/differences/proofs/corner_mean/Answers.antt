@@ -18,11 +18,11 @@ values_are c =
     ∙ same_four (as_read (search rules)) (as_read (search rules)) (as_read (search rules)) (as_read (search rules))
 
 pub diagonal-g-requires : goal.diagonal-g-requires
-diagonal-g-requires c = rw c.at.ensures (naturals_as (lit≤ tt) (c.requires.k_lt_count.2.each _ c.requires.k_lt_count.0))
+diagonal-g-requires c = rw c.at.ensures (naturals_as (lit≤ tt) (c.args.gradients.fit.each _ c.requires.k_lt_count.0))
 
 pub lifted_mean-requires : goal.lifted_mean-requires
 lifted_mean-requires c =
-    let g = c.requires.k_lt_count.2.each _ c.requires.k_lt_count.0 in
+    let g = c.args.gradients.fit.each _ c.requires.k_lt_count.0 in
     lifted_mean_fits 4096 81840 (rw (values_are (goal.at.lifted_mean-requires c).After-values-v) (weaker (lit≤ tt) (c.requires.values_fit.each _ c.requires.k_lt_count.0)))
     (listed_naturals _ c.diagonal-g.ensures (rw c.at.ensures (corner_gradients_size 40920 _ g.most))) tt
 

@@ -56,6 +56,18 @@ copy-requires-2 c =
     let few = rest_few lent first sites in
     search rules
 
+pub invariant_of-gradients : goal.invariant_of-gradients
+invariant_of-gradients c =
+    let reads = c.requires.some_samples.holds in record {
+      fit = gradients_fit (record {
+        lent = reads.lent;
+        gradients = reads.gradients;
+        start = c.first_chroma-c.ensures.0;
+        sites = c.half_count-count.ensures.0;
+        north_row = c.north.ensures;
+      }) _ _ c.record_at.ensures.0 c.south_at.ensures;
+    }
+
 pub corner_means-requires : goal.corner_means-requires
 corner_means-requires c =
     let row = diagonal_row c.requires.some_samples.holds c.first_chroma-c.ensures.0 c.half_count-count.ensures.0
@@ -63,10 +75,7 @@ corner_means-requires c =
     (row_one_off c.finals_of-above.ensures c.copy.ensures c.mirror.ensures)
     (row_one_off c.finals_of-below.ensures c.copy-2.ensures c.mirror-2.ensures) in
     record {
-      c_bound = (
-        c.first_chroma-c.ensures.1,
-        gradients_fit row.gradient_row _ _ c.record_at.ensures.0 c.south_at.ensures,
-      );
+      c_bound = c.first_chroma-c.ensures.1;
       values_fit = corner_values_fit row;
     }
 

@@ -24,6 +24,18 @@ copy-requires c =
     let few = sites_few reads.lent first sites in
     search rules
 
+pub invariant_of-gradients : goal.invariant_of-gradients
+invariant_of-gradients c =
+    let reads = c.requires.some_samples.holds in record {
+      fit = gradients_fit (record {
+        lent = reads.lent;
+        gradients = reads.gradients;
+        start = c.first_chroma-c.ensures.0;
+        sites = c.half_count-count.ensures.0;
+        north_row = c.north.ensures;
+      }) _ _ c.record_at.ensures.0 c.south_at.ensures;
+    }
+
 pub straight_means-requires : goal.straight_means-requires
 straight_means-requires c =
     let reads = c.requires.some_samples.holds in
@@ -34,7 +46,6 @@ straight_means-requires c =
     let row = enhance_row reads first sites below.0 above.0 c.north.ensures c.copy.ensures c.mirror.ensures in
     record {
       count_in_bounds = (row_room reads first sites _ below.1, row_room reads first sites _ above.1, green_most reads first sites);
-      gradients_fit = gradients_fit row.gradient_row _ _ c.record_at.ensures.0 c.south_at.ensures;
       values_fit = values_fit row;
     }
 

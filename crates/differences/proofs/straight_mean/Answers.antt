@@ -22,7 +22,7 @@ values_are c =
 pub lifted_mean-requires : goal.lifted_mean-requires
 lifted_mean-requires c =
     lifted_mean_fits 8192 40920 (rw (values_are (goal.at.lifted_mean-requires c).After-values-v) (weaker (lit≤ tt) (c.requires.values_fit.each _ c.requires.k_lt_count.0)))
-    (rw c.at.ensures (c.requires.gradients_fit.each _ c.requires.k_lt_count.0)) tt
+    (rw c.at.ensures (c.args.gradients.fit.each _ c.requires.k_lt_count.0)) tt
 
 pub returns : goal.returns
 returns c =

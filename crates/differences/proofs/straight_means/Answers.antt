@@ -5,4 +5,4 @@ use Rattle.toolkit.specs.Entries.{entries_next}
 use Rattle.differences.proofs.straight_means.Goals as goal
 
 pub loop-k-preserved : goal.loop-k-preserved
-loop-k-preserved c = entries_next c.loop-k.invariant (omega (arith, c.requires.gradients_fit.few)) (omega arith) (search rules)
+loop-k-preserved c = entries_next c.loop-k.invariant (omega (arith, c.args.gradients.fit.few)) (omega arith) (search rules)

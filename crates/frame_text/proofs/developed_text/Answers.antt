@@ -4,12 +4,12 @@ use Rattle.frame.specs.Sites.{frame}
 use Rattle.frame_text.specs.Developed.{wide, same_lengths, text_by_answer, text_by_planes}
 use Rattle.frame_text.proofs.developed_text.Goals as goal
 
-pub clamped_text-requires-clause-width_nonzero : goal.clamped_text-requires-clause-width_nonzero
-clamped_text-requires-clause-width_nonzero c =
+pub invariant_of-clamped_text : goal.invariant_of-clamped_text
+invariant_of-clamped_text c =
     let f = frame c.args.shape c.args.mosaic.now in
     let left = c.in_ok-develop.ensures in
     let same = same_lengths f left.red_left left.green_left left.blue_left in
-    (wide f _ c.develop.ensures.answer c.in_ok-develop.was, same.0, same.1)
+    record { wide = wide f _ c.develop.ensures.answer c.in_ok-develop.was; greens = same.0; blues = same.1 }
 
 pub returns : goal.returns
 returns c =

@@ -11,7 +11,7 @@ site_line-requires c =
     omega (
       arith,
       line_room c.loop-k.invariant _ _ _ c.clamped_entry.ensures c.clamped_entry-in-loop-k.ensures c.clamped_entry-in-loop-k-2.ensures c.loop-k-test.true,
-      c.requires.blue_in_bounds,
+      c.requires,
     )
 
 pub loop-k-preserved : goal.loop-k-preserved

@@ -33,7 +33,7 @@ row_outputs-requires c =
         samples = zs;
         holds = outputs_read lent c.row_at-at.ensures.0 (c.row_differences.ensures.differences_formed.row zs lent.reads);
       };
-      placed = (c.row_places-p.ensures, c.row_at-at.ensures.1, size_read _ (level_is (goal.at.row_outputs-requires c).Start) c.requires.red_len.3);
+      placed = (c.row_places-p.ensures, c.row_at-at.ensures.1, size_read _ (level_is (goal.at.row_outputs-requires c).Start) (omega arith));
     }
 
 pub store_outputs-requires : goal.store_outputs-requires

@@ -1,22 +1,21 @@
 -- `reader::read` meets its contract. Assumes nothing.
 use Rattle.frame.specs.Calls.{Answer, no_refusal}
-use mathlib.Core.Path.{◌≡◌, sym, ◌∙◌}
+use mathlib.Core.Path.{◌≡◌, sym, ◌∙◌, ap}
 use mathlib.Core.List.{List}
 use Prim.Native.Nat.{ℕ, ◌*◌}
 use Rattle.frame.specs.declared.Shape.{Shape}
 use Rattle.reader.specs.ReadSteps.{first_answer}
-use Rattle.frame_file.specs.Lists.{part}
 use Rattle.frame_file.specs.FrameFile.{block, header, block_count}
 use Rattle.reader.proofs.Readings.{Counted, file_long, sides_small, first_refused, size_refused, room_refused, front_fits, blocks_refused, all_read}
-use borrow.Author.Rules.{rules}
+use native.Mathlib.Omega.{arith}
 use Rattle.std.proofs.lemmas.Result.{err_from_is_err_and}
 use Rattle.reader.proofs.read.Goals as goal
 
 -- samples and blocks are counted
-counted : (file : List ℕ) {a : Answer} {shape : Shape} {m blocks : ℕ} → a ≡ first_answer file → a ≡ no_refusal → shape ≡ header (part file 0 512)
+counted : (file : List ℕ) {a : Answer} {first : List ℕ} {shape : Shape} {m blocks : ℕ} → a ≡ first_answer file → a ≡ no_refusal
+    → first ≡ block file 0 → shape ≡ header first
     → m ≡ shape.height * shape.width → blocks ≡ block_count m → Counted file shape m blocks
-unfolding block
-counted file e d s m b = record { done = sym e ∙ d; shape_is = s; samples_are = m; blocks_are = b }
+counted file e d f s m b = record { done = sym e ∙ d; shape_is = s ∙ ap header f; samples_are = m; blocks_are = b }
 
 pub returns-in_err-test_first : goal.returns-in_err-test_first
 returns-in_err-test_first c =
@@ -24,51 +23,45 @@ returns-in_err-test_first c =
     let whole = first_refused _ _ _ (sym c.test_first.ensures ∙ c.in_err-test_first.was) in
     record { answer = rw (back.1, back.2) whole.0; left = whole.1 }
 
-pub slice_bounds-header_of-end : goal.slice_bounds-header_of-end
-slice_bounds-header_of-end c = let long = file_long _ (sym c.test_first.ensures ∙ c.in_ok-test_first.was) in search rules
+pub at-requires : goal.at-requires
+at-requires c = let long = file_long _ (sym c.test_first.ensures ∙ c.in_ok-test_first.was) in omega arith
 
 pub sample_count-count-requires : goal.sample_count-count-requires
-unfolding block part
 sample_count-count-requires c =
     sides_small c.args.file.now (sym c.test_first.ensures ∙ c.in_ok-test_first.was) _
-    c.header_of-shape.ensures
+    (c.header_of-shape.ensures ∙ ap header c.at.ensures)
 
 pub returns-then-file-size : goal.returns-then-file-size
-unfolding part
 returns-then-file-size c =
     let whole = size_refused _ _ _ _ _
-    (counted c.args.file.now c.test_first.ensures c.in_ok-test_first.was c.header_of-shape.ensures c.sample_count-count.ensures.0 c.count_for-blocks.ensures.0)
+    (counted c.args.file.now c.test_first.ensures c.in_ok-test_first.was c.at.ensures c.header_of-shape.ensures c.sample_count-count.ensures.0 c.count_for-blocks.ensures.0)
     c.if-file-size.true in record { answer = whole.0; left = whole.1 }
 
 pub returns-then-samples-count : goal.returns-then-samples-count
-unfolding part
 returns-then-samples-count c =
     let whole = room_refused _ _ _ _ _
-    (counted c.args.file.now c.test_first.ensures c.in_ok-test_first.was c.header_of-shape.ensures c.sample_count-count.ensures.0 c.count_for-blocks.ensures.0)
+    (counted c.args.file.now c.test_first.ensures c.in_ok-test_first.was c.at.ensures c.header_of-shape.ensures c.sample_count-count.ensures.0 c.count_for-blocks.ensures.0)
     c.if-file-size.false c.if-samples-count.true in record { answer = whole.0; left = whole.1 }
 
 pub unpack_blocks-requires : goal.unpack_blocks-requires
-unfolding part
 unpack_blocks-requires c =
     front_fits _ _ _ _ _
-    (counted c.args.file.now c.test_first.ensures c.in_ok-test_first.was c.header_of-shape.ensures c.sample_count-count.ensures.0 c.count_for-blocks.ensures.0)
+    (counted c.args.file.now c.test_first.ensures c.in_ok-test_first.was c.at.ensures c.header_of-shape.ensures c.sample_count-count.ensures.0 c.count_for-blocks.ensures.0)
     c.if-file-size.false c.if-samples-count.false
 
 pub returns-in_err-test_blocks : goal.returns-in_err-test_blocks
-unfolding part
 returns-in_err-test_blocks c =
     let back = err_from_is_err_and c.from_residual-in_err-test_blocks.result c.from_residual-in_err-test_blocks.ensures.1 in
     let whole = blocks_refused _ _ _ _ _
-    (counted c.args.file.now c.test_first.ensures c.in_ok-test_first.was c.header_of-shape.ensures c.sample_count-count.ensures.0 c.count_for-blocks.ensures.0)
+    (counted c.args.file.now c.test_first.ensures c.in_ok-test_first.was c.at.ensures c.header_of-shape.ensures c.sample_count-count.ensures.0 c.count_for-blocks.ensures.0)
     c.if-file-size.false c.if-samples-count.false _
     (sym c.test_blocks.ensures ∙ c.in_err-test_blocks.was) in
     record { answer = rw (back.1, back.2) whole.0; left = whole.1 }
 
 pub returns : goal.returns
-unfolding part
 returns c =
     let whole = all_read _ _ _ _ _
-    (counted c.args.file.now c.test_first.ensures c.in_ok-test_first.was c.header_of-shape.ensures c.sample_count-count.ensures.0 c.count_for-blocks.ensures.0)
+    (counted c.args.file.now c.test_first.ensures c.in_ok-test_first.was c.at.ensures c.header_of-shape.ensures c.sample_count-count.ensures.0 c.count_for-blocks.ensures.0)
     c.if-file-size.false c.if-samples-count.false
     (sym c.test_blocks.ensures ∙ c.in_ok-test_blocks.was) _
     c.unpack_blocks.ensures in record { answer = whole.0; left = whole.1 }

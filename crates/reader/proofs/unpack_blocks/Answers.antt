@@ -13,7 +13,7 @@ payload-requires c =
 pub loop-k-preserved : goal.loop-k-preserved
 loop-k-preserved c =
     unpacked_next _ _ _ _ (omega arith) c.min-end.ensures c.loop-k.auto.samples c.loop-k.invariant _ _
-    c.payload.ensures.0 c.unpack_payload.ensures
+    c.payload.ensures c.unpack_payload.ensures
 
 pub returns : goal.returns
 returns c = unpacked_all _ _ _ (omega arith) c.loop-k.invariant

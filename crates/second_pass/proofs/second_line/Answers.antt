@@ -11,6 +11,9 @@ use Rattle.second_pass.specs.Picking.{line_stored}
 use Rattle.second_pass.specs.MapRows.{map_stored}
 use Rattle.second_pass.proofs.second_line.Goals as goal
 
+pub invariant_of-planes : goal.invariant_of-planes
+invariant_of-planes c = record { sites = c.half_count-count.ensures.0 ∙ ap (half_count c.args.shape.width) c.first_chroma-c.ensures.0 }
+
 pub second_row-requires-clause-count_bound : goal.second_row-requires-clause-count_bound
 second_row-requires-clause-count_bound c =
     let p = row_here (frame c.args.shape c.requires.some_samples.samples) _ _ _ _ _ c.requires.some_samples.holds.planes

@@ -6,5 +6,5 @@ use Rattle.stage_turns.proofs.diagonal_turn.Goals as goal
 pub returns-in-Some : goal.returns-in-Some
 returns-in-Some c =
     let due = c.in-Some.ensures in
-    let here : c.in-Some.i ≡ c.args.t - 15 = due.1 in
+    let here : c.in-Some.i ≡ c.args.turn.t - 15 = due.1 in
     record { diagonal_turned = diagonal_turned due.0 (omega (arith, due)) (rw here at c.diagonal_line.ensures.diagonal_stores) }

@@ -6,5 +6,5 @@ use Rattle.stage_turns.proofs.enhance_turn.Goals as goal
 pub returns-in-Some : goal.returns-in-Some
 returns-in-Some c =
     let due = c.in-Some.ensures in
-    let here : c.in-Some.i ≡ c.args.t - 14 = due.1 in
+    let here : c.in-Some.i ≡ c.args.turn.t - 14 = due.1 in
     record { enhance_turned = enhance_turned due.0 (omega (arith, due)) (rw here at c.enhance_line.ensures.enhance_stores) }

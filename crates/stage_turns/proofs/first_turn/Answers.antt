@@ -6,5 +6,5 @@ use Rattle.stage_turns.proofs.first_turn.Goals as goal
 pub returns-in-Some : goal.returns-in-Some
 returns-in-Some c =
     let due = c.in-Some.ensures in
-    let here : c.in-Some.i ≡ c.args.t - 4 = due.1 in
+    let here : c.in-Some.i ≡ c.args.turn.t - 4 = due.1 in
     record { first_turned = first_turned due.0 (omega (arith, due)) (rw here at c.first_line.ensures.first_stores) }

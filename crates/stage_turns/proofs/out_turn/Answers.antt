@@ -6,17 +6,17 @@ use Rattle.stage_turns.proofs.out_turn.Goals as goal
 pub returns-in-Some-clause-out_turned : goal.returns-in-Some-clause-out_turned
 returns-in-Some-clause-out_turned c =
     let due = c.in-Some.ensures in
-    let here : c.in-Some.i ≡ c.args.t - 20 = due.1 in
+    let here : c.in-Some.i ≡ c.args.turn.t - 20 = due.1 in
     out_turned due.0 (omega (arith, due)) (rw here at c.out_line.ensures.out_stores)
 
 pub returns-in-Some-clause-out_turned_2 : goal.returns-in-Some-clause-out_turned_2
 returns-in-Some-clause-out_turned_2 c =
     let due = c.in-Some.ensures in
-    let here : c.in-Some.i ≡ c.args.t - 20 = due.1 in
+    let here : c.in-Some.i ≡ c.args.turn.t - 20 = due.1 in
     out_turned due.0 (omega (arith, due)) (rw here at c.out_line.ensures.out_stores_2)
 
 pub returns-in-Some-clause-out_turned_3 : goal.returns-in-Some-clause-out_turned_3
 returns-in-Some-clause-out_turned_3 c =
     let due = c.in-Some.ensures in
-    let here : c.in-Some.i ≡ c.args.t - 20 = due.1 in
+    let here : c.in-Some.i ≡ c.args.turn.t - 20 = due.1 in
     out_turned due.0 (omega (arith, due)) (rw here at c.out_line.ensures.out_stores_3)

@@ -11,20 +11,20 @@ pub add_columns-requires : goal.add_columns-requires
 add_columns-requires c =
     let r = c.requires.some_samples.holds in
     let m = c.requires.sums_room in
-    let whole = columns_asked r (count_is c.args.shape c.args.i c.args.count c.requires.count_value.0 c.requires.some_samples.samples) c.requires.count_value.2 horizontal _ _ r.across_row (before m.across_most (omega arith)) in record { t_bound = whole.0; sized = whole.1 }
+    let whole = columns_asked r (count_is c.args.planes.shape c.args.planes.index c.args.planes.count c.args.planes.sites c.requires.some_samples.samples) c.requires.t_bound.1 horizontal _ _ r.across_row (before m.across_most (omega arith)) in record { t_bound = whole.0; sized = whole.1 }
 
 pub add_rows-requires : goal.add_rows-requires
 add_rows-requires c =
     let r = c.requires.some_samples.holds in
     let m = c.requires.sums_room in
-    let whole = rows_asked r (count_is c.args.shape c.args.i c.args.count c.requires.count_value.0 c.requires.some_samples.samples) c.requires.count_value.2 vertical _ _ _ _ _ r.down_row r.planes.verticals_held r.planes.verticals_size
+    let whole = rows_asked r (count_is c.args.planes.shape c.args.planes.index c.args.planes.count c.args.planes.sites c.requires.some_samples.samples) c.requires.t_bound.1 vertical _ _ _ _ _ r.down_row r.planes.verticals_held r.planes.verticals_size
     c.row_above.ensures.value c.row_below.ensures.value (before m.down_most (omega arith)) in record { count_in_bounds = whole.0; sized = whole.1 }
 
 pub add_both-requires : goal.add_both-requires
 add_both-requires c =
     let r = c.requires.some_samples.holds in
     let m = c.requires.sums_room in
-    let whole = both_asked r (count_is c.args.shape c.args.i c.args.count c.requires.count_value.0 c.requires.some_samples.samples) c.requires.count_value.2 diagonal _ _ _ _ _ r.both_row r.planes.diagonals_held r.planes.diagonals_size
+    let whole = both_asked r (count_is c.args.planes.shape c.args.planes.index c.args.planes.count c.args.planes.sites c.requires.some_samples.samples) c.requires.t_bound.1 diagonal _ _ _ _ _ r.both_row r.planes.diagonals_held r.planes.diagonals_size
     c.row_above.ensures.value
     c.row_below.ensures.value (before m.both_most (omega arith)) in record { t_bound = whole.0; sized = whole.1 }
 
@@ -33,17 +33,17 @@ returns c =
     let a = c.args in
     let up = c.row_above in
     let down = c.row_below in
-    let new : Stepped a.t (up.result * a.shape.width) (down.result * a.shape.width) a.count a.diagonals.now
-    a.verticals.now a.trials.now.across a.trials.now.vertical a.trials.now.diagonal a.sums.now.across a.sums.now.vertical
+    let new : Stepped a.t (up.result * a.planes.shape.width) (down.result * a.planes.shape.width) a.planes.count a.planes.diagonals.now
+    a.planes.verticals.now a.trials.now.across a.trials.now.vertical a.trials.now.diagonal a.sums.now.across a.sums.now.vertical
     a.sums.now.diagonal _ _ _ = record {
       across = c.add_columns.ensures;
       down_columns = c.add_rows.ensures;
       both = c.add_both.ensures;
     } in record {
-      widens = widens a.shape a.i a.count c.requires.count_value.0 a.t _ _ up.result down.result _ _ _ _ _ _ _ _ _ _ _
-          c.requires.count_value.1 c.requires.count_value.2
+      widens = widens a.planes.shape a.planes.index a.planes.count a.planes.sites a.t _ _ up.result down.result _ _ _ _ _ _ _ _ _ _ _
+          c.requires.t_bound.0 c.requires.t_bound.1
           up.ensures.value.0 down.ensures.value.0 refl refl new;
-      sums_room_2 = room_next c.requires.some_samples.holds (count_is c.args.shape c.args.i c.args.count c.requires.count_value.0 c.requires.some_samples.samples) c.requires.count_value.2 up.result down.result _ _ _ _ _ _ up.ensures.value
-          down.ensures.value c.requires.count_value.1
+      sums_room_2 = room_next c.requires.some_samples.holds (count_is c.args.planes.shape c.args.planes.index c.args.planes.count c.args.planes.sites c.requires.some_samples.samples) c.requires.t_bound.1 up.result down.result _ _ _ _ _ _ up.ensures.value
+          down.ensures.value c.requires.t_bound.0
           c.requires.sums_room new;
     }

@@ -4,17 +4,17 @@ use Rattle.sums.specs.Room.{count_room}
 use Rattle.sums.proofs.sum_row.Goals as goal
 
 pub clear-requires : goal.clear-requires
-clear-requires c = (count_room c.requires.some_samples.holds.planes (count_is c.args.shape c.args.i c.args.count c.requires.count_value.0 c.requires.some_samples.samples)).0
+clear-requires c = (count_room c.requires.some_samples.holds.planes (count_is c.args.planes.shape c.args.planes.index c.args.planes.count c.args.planes.sites c.requires.some_samples.samples)).0
 
 pub clear-requires-2 : goal.clear-requires-2
-clear-requires-2 c = (count_room c.requires.some_samples.holds.planes (count_is c.args.shape c.args.i c.args.count c.requires.count_value.0 c.requires.some_samples.samples)).0
+clear-requires-2 c = (count_room c.requires.some_samples.holds.planes (count_is c.args.planes.shape c.args.planes.index c.args.planes.count c.args.planes.sites c.requires.some_samples.samples)).0
 
 pub clear-requires-3 : goal.clear-requires-3
-clear-requires-3 c = (count_room c.requires.some_samples.holds.planes (count_is c.args.shape c.args.i c.args.count c.requires.count_value.0 c.requires.some_samples.samples)).0
+clear-requires-3 c = (count_room c.requires.some_samples.holds.planes (count_is c.args.planes.shape c.args.planes.index c.args.planes.count c.args.planes.sites c.requires.some_samples.samples)).0
 
 pub returns-clause-summed : goal.returns-clause-summed
 returns-clause-summed c =
     let a = c.args in record {
       row = λ zs read. c.add_steps.ensures.widens.step zs read
-          (sums_none a.shape a.i a.count c.requires.count_value.0 _ _ _ c.clear.ensures c.clear-2.ensures c.clear-3.ensures zs);
+          (sums_none a.planes.shape a.planes.index a.planes.count a.planes.sites _ _ _ c.clear.ensures c.clear-2.ensures c.clear-3.ensures zs);
     }

@@ -62,7 +62,7 @@ out_turn-requires c =
     let last = after_diagonal kept.1 enhanced c.diagonal_turn.ensures.diagonal_turned in
     record {
       some_samples = record { samples = _; holds = out_asks kept.1 mosaic last };
-      red_len = (last.red_size, last.green_size, last.blue_size, kept.2);
+      red_len = (last.red_size, last.green_size, last.blue_size);
     }
 
 -- what the turns have made

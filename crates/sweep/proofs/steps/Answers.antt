@@ -5,7 +5,7 @@ use Rattle.sweep.specs.End.{sweep_all}
 use Rattle.sweep.proofs.steps.Goals as goal
 
 pub loop-t-init : goal.loop-t-init
-loop-t-init c = (c.requires.sweep, c.requires.mosaic_kept.0, first_round)
+loop-t-init c = (c.requires.sweep, c.requires.mosaic_kept, first_round)
 
 pub next_base-base-requires : goal.next_base-base-requires
 next_base-base-requires c = (omega (arith, c.requires.sweep.buffers.taken.low), c.loop-t.invariant.2)

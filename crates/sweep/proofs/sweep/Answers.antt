@@ -9,5 +9,5 @@ steps-requires c =
     let sizes = c.requires.red_len in
     record {
       sweep = sweep_none (record { taken = c.requires.taken; tops_size = refl; work_size = sizes.4 }) sizes.0 sizes.1 sizes.2 sizes.3;
-      mosaic_kept = (mosaic_none refl refl, sizes.5);
+      mosaic_kept = mosaic_none refl refl;
     }
