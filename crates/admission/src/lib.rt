@@ -5,7 +5,7 @@ ghost use Rattle.std.specs.Prelude.{◌≡◌, ◌*◌, ◌≤◌, length, Match
 ghost use Rattle.frame.specs.Sites.{side_allowed};
 ghost use Rattle.frame.specs.Calls.{samples_answer, black_answer, under_answer, no_refusal};
 ghost use Rattle.admission.specs.ShapeTest.{shape_allowed, shape_answer, count_answer};
-ghost use Rattle.admission.specs.Extremes.{highest_of, lowest_of, FirstOutside};
+ghost use Rattle.admission.specs.Extremes.{highest_of, lowest_of, FoundOutside};
 
 use frame::{Answer, Refusal, Shape};
 
@@ -87,7 +87,7 @@ fn lowest(samples: &[u16]) -> Option<u16>
 
 // The position of the first sample below low or above high, None where there is none.
 fn first_outside(samples: &[u16], low: usize, high: usize) -> Option<usize>
-    ensures { FirstOutside low high samples.now result }
+    ensures { FoundOutside low high samples.now result }
 {
     samples
         .iter()
@@ -95,22 +95,21 @@ fn first_outside(samples: &[u16], low: usize, high: usize) -> Option<usize>
 }
 
 // Number 5. The highest sample is found without a branch; only where it is too high is the first such one looked for.
-#[tactic(auto, using(crate::specs::Extremes::none_above, crate::specs::Extremes::first_above, crate::specs::Extremes::all_inside))]
+#[tactic(auto, using(crate::specs::Extremes::none_above, crate::specs::Extremes::found_above, crate::specs::Extremes::all_inside))]
 pub fn test_samples(samples: &[u16]) -> Answer
     ensures { result ≡ samples_answer samples.now }
 {
     if highest(samples).is_none_or(|z| z <= 1023) {
         return Ok(());
     }
-    match first_outside(samples, 0, 1023) {
-        Some(k) => Err(Refusal::Sample(k)),
-        None => Ok(()),
-    }
+    first_outside(samples, 0, 1023)
+        .map(Refusal::Sample)
+        .map_or(Ok(()), Err)
 }
 
 // Number 12, for a black level that passes 11 and samples that pass 5. The lowest sample is found without a branch; only where it lies too
 // far under the black level is the first such one looked for.
-#[tactic(auto, using(crate::specs::Extremes::none_under_black, crate::specs::Extremes::first_under, crate::specs::Extremes::inside_of_black))]
+#[tactic(auto, using(crate::specs::Extremes::none_under_black, crate::specs::Extremes::found_under, crate::specs::Extremes::inside_of_black))]
 pub fn test_under(samples: &[u16], black: usize) -> Answer
     requires { (black ≤ 255) × (samples_answer samples.now ≡ no_refusal) }
     ensures { result ≡ under_answer black samples.now }
@@ -122,8 +121,7 @@ pub fn test_under(samples: &[u16], black: usize) -> Answer
     if lowest(samples).is_none_or(|z| low <= usize::from(z)) {
         return Ok(());
     }
-    match first_outside(samples, low, 1023) {
-        Some(k) => Err(Refusal::UnderBlack(k)),
-        None => Ok(()),
-    }
+    first_outside(samples, low, 1023)
+        .map(Refusal::UnderBlack)
+        .map_or(Ok(()), Err)
 }

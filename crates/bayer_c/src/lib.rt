@@ -1,4 +1,5 @@
-// The exports for C: bayer's published calls under the same names, each with the same clauses.
+// The exports for C: bayer's published calls under the same names, each with the same clauses. C needs functions of its own, since a name that C
+// calls belongs to one library alone.
 #![tactic(auto)]
 
 ghost use Rattle.std.specs.Prelude.{◌≡◌, length};

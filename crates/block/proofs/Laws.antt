@@ -1,4 +1,4 @@
--- Laws of the check's sum and of the tag. Assumes nothing.
+-- Laws of the check's sum, of the tag and of the payload. Assumes nothing.
 use mathlib.Core.Path.{◌≡◌, refl, sym, ◌∙◌, ap, ap₂}
 use mathlib.Core.List.{List, [], ◌∷◌}
 use Prim.Native.Nat.{ℕ, ◌+◌, ◌*◌, ◌≤◌, ◌<◌}
@@ -7,8 +7,8 @@ use lib.Dec.{eqb}
 use lib.ListN.{length, get_or, take, drop, length-take}
 use lib.Seq.{get_or-take}
 use Rattle.std.specs.Cmp.Lexicographic.{pointwise}
-use Rattle.frame_file.specs.Lists.{part, same_list}
-use Rattle.frame_file.specs.FrameFile.{position_weighted_sum, check, tag, has_tag}
+use Rattle.frame_file.specs.Lists.{part, part_part, same_list}
+use Rattle.frame_file.specs.FrameFile.{block, position_weighted_sum, check, tag, has_tag, payload}
 use Rattle.frame_file.proofs.Check.{weighted_sum_step, term_bound}
 
 -- ---- the check
@@ -50,3 +50,9 @@ same_bytes (x ∷ l) (y ∷ m) = rw (same_bytes l m)
 pub tag_compared : (b : List ℕ) → pointwise eqb (take 4 (drop 4 b)) (66 ∷ 65 ∷ 89 ∷ 82 ∷ []) ≡ has_tag b
 unfolding has_tag tag part
 tag_compared b = same_bytes (take 4 (drop 4 b)) (66 ∷ 65 ∷ 89 ∷ 82 ∷ [])
+
+-- ---- the payload
+
+pub payload_of_block : (file : List ℕ) (n : ℕ) → take 500 (drop 4 (block file n)) ≡ payload file n
+unfolding block payload part
+payload_of_block file n = part_part file (512 * n) 512 4 500 (omega arith)

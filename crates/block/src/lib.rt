@@ -1,7 +1,7 @@
 // One block of the frame file: its numbers, its check, its tag, its payload.
 #![tactic(auto)]
 
-ghost use Rattle.std.specs.Prelude.{◌≡◌, ◌+◌, ◌*◌, ◌<◌, ◌≤◌, length};
+ghost use Rattle.std.specs.Prelude.{◌≡◌, ◌+◌, ◌*◌, ◌^◌, ◌<◌, ◌≤◌, length};
 ghost use Rattle.frame_file.specs.Lists.{part};
 ghost use Rattle.frame_file.specs.FrameFile.{little_endian, little_endian_bytes, check, has_tag, block as block_of, payload as payload_of, block_count};
 ghost use Rattle.block.specs.BlockTest.{block_answer};
@@ -20,22 +20,14 @@ pub fn bytes4(number: usize) -> [u8; 4]
     [a, b, c, d]
 }
 
-// The number in two bytes, little-endian.
-#[tactic(auto, using(frame_file::proofs::LittleEndian::number_of_two))]
-pub fn number_of_two(bytes: &[u8], at: usize) -> usize
-    requires { at + 2 ≤ length bytes.now }
-    ensures { (result ≡ little_endian (part bytes.now at 2)) × (result < 65536) }
+// The number in N bytes, little-endian.
+pub fn number<const N: usize>(bytes: &[u8], at: usize) -> usize
+    requires { (N ≤ 8) × (at + N ≤ length bytes.now) }
+    ensures { (result ≡ little_endian (part bytes.now at N)) × (result < 256 ^ N) }
 {
-    usize::from(u16::from_le_bytes([bytes[at], bytes[at + 1]]))
-}
-
-// The number in four bytes, little-endian.
-#[tactic(auto, using(frame_file::proofs::LittleEndian::number_of_two, frame_file::proofs::LittleEndian::number_of_four))]
-fn number_of_four(bytes: &[u8], at: usize) -> usize
-    requires { at + 4 ≤ length bytes.now }
-    ensures { result ≡ little_endian (part bytes.now at 4) }
-{
-    u32::from_le_bytes([bytes[at], bytes[at + 1], bytes[at + 2], bytes[at + 3]]) as usize
+    let mut number = [0; 8];
+    number[..N].copy_from_slice(&bytes[at..at + N]);
+    usize::from_le_bytes(number)
 }
 
 // The check: the sum of (k+1) times byte k for k = 0..507.
@@ -56,10 +48,10 @@ pub fn check_of(block: &[u8]) -> usize
 pub fn test_block(block: &[u8; 512], n: usize) -> Answer
     ensures { result ≡ block_answer block.now n }
 {
-    if number_of_four(block, 508) != check_of(block) {
+    if number::<4>(block, 508) != check_of(block) {
         return Err(Refusal::Check(n));
     }
-    if number_of_four(block, 0) != n {
+    if number::<4>(block, 0) != n {
         return Err(Refusal::BlockNumber(n));
     }
     Ok(())
@@ -84,13 +76,12 @@ pub fn at(file: &[u8], n: usize) -> &[u8; 512]
 }
 
 // The payload of block n, as a part of the file.
-#[tactic(auto, using(frame_file::specs::Lists::slice_part), unfolding(frame_file::specs::FrameFile::payload))]
+#[tactic(auto, using(crate::proofs::Laws::payload_of_block))]
 pub fn payload(file: &[u8], n: usize) -> &[u8; 500]
     requires { 512 * n + 512 ≤ length file.now }
     ensures { result.now ≡ payload_of file.now n }
 {
-    let start = 512 * n + 4;
-    file[start..start + 500].try_into().unwrap()
+    at(file, n)[4..504].try_into().unwrap()
 }
 
 // How many blocks a file of so many samples has.

@@ -21,6 +21,12 @@ pub record EastRoom (rows alongs : List ℕ) (up here down w : ℕ) : Type 0 whe
 abbrev pub sample_in : List ℕ → ℕ → ℤ
 sample_in z k = pos (get_or z k 0)
 
+-- |s| of the first six and of the last six of seven samples in line
+unfoldable pub pair_of : List ℕ → ℕ
+pair_of z =
+    nat_abs (taps (sample_in z 0) (sample_in z 1) (sample_in z 2) (sample_in z 3) (sample_in z 4) (sample_in z 5))
+    + nat_abs (taps (sample_in z 1) (sample_in z 2) (sample_in z 3) (sample_in z 4) (sample_in z 5) (sample_in z 6))
+
 -- "Let a(i,j) = |s(i,j)| + |s(i,j+1)|.", with column j at entry k
 unfoldable pub along_at : List ℕ → ℕ → ℕ
 along_at z k =

@@ -1,5 +1,5 @@
 -- The estimates less 8·X, as they are formed from five rows of the mosaic, the first of seven, and their size. Assumes nothing.
-use Rattle.std.specs.Prelude.{◌≡◌, refl, List, ℕ, ◌+◌, ◌-◌, ◌<◌, ◌≤◌, ℤ, pos, nat_abs, get_or}
+use Rattle.std.specs.Prelude.{◌≡◌, refl, List, ℕ, ◌+◌, ◌-◌, ◌<◌, ◌≤◌, ℤ, pos, nat_abs, ◌+ℤ◌, ◌-ℤ◌, ◌*ℤ◌, get_or}
 use Rattle.std.proofs.Common.{sym, arith}
 use Rattle.toolkit.specs.Orders.{to_naturals}
 use Rattle.method.specs.Green.{line_estimate, less_eight}
@@ -23,6 +23,10 @@ down_difference at rows j =
 pub record SmallRows (m : ℕ) (at rows : List ℕ) : Type 0 where
   pub room : (p : ℕ) → p < 5 → get_or at p 0 + 4112 ≤ 98688
   pub each : (p x : ℕ) → p < 5 → x < m → get_or rows (get_or at p 0 + x) 0 ≤ 1023
+
+pub line_is : (x l r y z : ℕ) → pos 4 *ℤ (pos l +ℤ pos r) -ℤ pos 4 *ℤ pos x -ℤ pos 2 *ℤ (pos y +ℤ pos z) ≡ line_difference x l r y z
+unfolding line_difference less_eight line_estimate
+line_is x l r y z = simp to_naturals (omega arith)
 
 pub line_size : (x l r y z : ℕ) → x ≤ 1023 → l ≤ 1023 → r ≤ 1023 → y ≤ 1023 → z ≤ 1023 → nat_abs (line_difference x l r y z) ≤ 8184
 unfolding line_difference less_eight line_estimate

@@ -8,7 +8,7 @@ use Rattle.toolkit.specs.Bounds.{fits, val, wrap_is}
 use Rattle.toolkit.specs.BoundRules.{vals, lt_is}
 use Rattle.toolkit.specs.Naturals.{natural_sum}
 use Rattle.toolkit.specs.Shifts.{b_shift}
-use Rattle.toolkit.specs.Tests.{by_test, eqb_eq, eqb_yes}
+use Rattle.toolkit.specs.Tests.{by_test, eqb_eq, eqb_yes, ltb_lt, ltb_ge}
 use Rattle.method.specs.Green.{Outcome, equal, strong_across, strong_down, weak, outcome, threshold, half}
 use Rattle.first_pass.specs.declared.FirstPass.{FirstPass}
 use Rattle.first_pass.specs.declared.FirstPass.TheVariants.{Equal, Across, Down, Weak}
@@ -39,6 +39,16 @@ chosen_second x e h = rw e h
 pub tested : {x y : ℤ} {h v : ℕ} {t : Bool} → x ≡ pos h → y ≡ pos v → lt_z x y ≡ t → ltb h v ≡ t
 tested e f q = sym (lt_is e f) ∙ q
 
+pub lower_is : (h v : ℕ) → cond (ltb h v) (pos h) (pos v) ≡ pos (min h v)
+lower_is h v = by_test (ltb h v) _
+    (λ t. let l = ltb_lt h v t in let e : min h v ≡ h = omega arith in rw (t, e))
+    (λ t. let l = ltb_ge h v t in let e : min h v ≡ v = omega arith in rw (t, e))
+
+pub higher_is : (h v : ℕ) → cond (ltb h v) (pos v) (pos h) ≡ pos (max h v)
+higher_is h v = by_test (ltb h v) _
+    (λ t. let l = ltb_lt h v t in let e : max h v ≡ v = omega arith in rw (t, e))
+    (λ t. let l = ltb_ge h v t in let e : max h v ≡ h = omega arith in rw (t, e))
+
 -- the lesser and the greater of two numbers that are naturals
 pub min_is : {x y z : ℤ} {h v : ℕ} → z ≡ int_min x y → x ≡ pos h → y ≡ pos v → z ≡ pos (min h v)
 min_is e f g = omega (arith, ints, clamps)
@@ -61,6 +71,9 @@ outcome_unequal h v x o e =
 abbrev pub as_i32 : ℤ → ℤ
 as_i32 z = to_z w32 (of_z w32 (to_z w64 (of_z w64 z)))
 
+pub cast_fits : (z : ℤ) → nat_abs z ≤ 40920 → SFits w32 (to_z w64 (of_z w64 z))
+cast_fits z l = fits (search vals depth 30) tt
+
 pub pair_fits : (x y : ℤ) → nat_abs x ≤ 40920 → nat_abs y ≤ 40920 → SFits w32 (as_i32 x +ℤ as_i32 y)
 pair_fits x y l m = fits (search vals depth 30) tt
 
@@ -77,6 +90,9 @@ times_read k m z e l = wrap_is w32 (times_fits k m z e l) (rw e refl)
 -- ---- what `settle` and `try_site` form
 
 -- half of a sum of two i32
+pub sum_fits : (x y : ℤ) → nat_abs x ≤ 8184 → nat_abs y ≤ 8184 → SFits w32 (to_z w32 (of_z w32 x) +ℤ to_z w32 (of_z w32 y))
+sum_fits x y hx hy = fits (search vals depth 30) tt
+
 pub half_read : (x y : ℤ) → nat_abs x ≤ 8184 → nat_abs y ≤ 8184
     → to_z w32 (of_z w32 (shr_z (to_z w32 (of_z w32 (to_z w32 (of_z w32 x) +ℤ to_z w32 (of_z w32 y)))) 2)) ≡ half (x +ℤ y)
 unfolding half

@@ -14,6 +14,8 @@ ghost use Rattle.half_rows.specs.Sources.{Sized};
 ghost use Rattle.first_pass.specs.Trials.{tried, site_trial, site_code};
 
 use half_rows::SiteGradients;
+use mosaic_rows::SevenRows;
+use positions::Halves;
 
 // What the first pass answers of a site. The numbers are the entries of the map, which C reads; that of a weak site is the entry of one
 // resolved across, until the second pass resolves it.
@@ -33,46 +35,41 @@ fn line(x: u16, g1: u16, g2: u16, x1: u16, x2: u16) -> i32
     4 * (i32::from(g1) + i32::from(g2)) - 4 * i32::from(x) - 2 * (i32::from(x1) + i32::from(x2))
 }
 
-// gH and gV less 8·X at the columns c, c + 2, .. of the row at entry at[2]: half rows a and b.
+// gH and gV less 8·X at the red and blue columns, from the first on, of the row that starts at at[2]: half rows a and b.
 // The entries are read before the loop, so that a row of sites is formed side by side.
-pub fn line_row(
-    rows: &[u16; 98688],
-    at: [usize; 7],
-    c: usize,
-    a: &mut [i32; 2064],
-    b: &mut [i32; 2064],
-    count: usize,
-)
-    requires c_bound { (c ≤ 1) × (count ≤ 2048) }
-    requires small_rows { SmallRows (c + 2 * count + 9) at rows.now }
-    ensures entries { Entries (pos 0) 2064 4 (count + 4)
-        (λ (x : ℕ). across_difference at rows.now (c + 2 * (x - 4) + 8)) a.new }
-    ensures entries_2 { Entries (pos 0) 2064 4 (count + 4)
-        (λ (x : ℕ). down_difference at rows.now (c + 2 * (x - 4) + 8)) b.new }
+pub fn line_row(rows: SevenRows<'_>, halves: Halves, a: &mut [i32; 2064], b: &mut [i32; 2064])
+    requires c_bound { (halves.start ≤ 1) × (halves.count ≤ 2048) }
+    requires small_rows { SmallRows (halves.start + 2 * halves.count + 9) rows.at rows.samples.now }
+    ensures entries { Entries (pos 0) 2064 4 (halves.count + 4)
+        (λ (x : ℕ). across_difference rows.entry.at rows.entry.samples.now (halves.start + 2 * (x - 4) + 8)) a.new }
+    ensures entries_2 { Entries (pos 0) 2064 4 (halves.count + 4)
+        (λ (x : ℕ). down_difference rows.entry.at rows.entry.samples.now (halves.start + 2 * (x - 4) + 8)) b.new }
 {
-    let [two_up, up, own, down, two_down, _, _] = at;
-    for k in 0..count {
-        let j = c + 2 * k + 8;
+    let [two_up, up, own, down, two_down, ..] = rows.at;
+    let samples = rows.samples;
+    for k in 0..halves.count {
+        let j = halves.start + 2 * k + 8;
         let here = own + j;
-        let x = rows[here];
+        let x = samples[here];
         a[k + 4] = line(
             x,
-            rows[here - 1],
-            rows[here + 1],
-            rows[here - 2],
-            rows[here + 2],
+            samples[here - 1],
+            samples[here + 1],
+            samples[here - 2],
+            samples[here + 2],
         );
         b[k + 4] = line(
             x,
-            rows[up + j],
-            rows[down + j],
-            rows[two_up + j],
-            rows[two_down + j],
+            samples[up + j],
+            samples[down + j],
+            samples[two_up + j],
+            samples[two_down + j],
         );
     }
 }
 
-// The first pass's answer, from the four gradients.
+// The first pass's answer, from the four gradients. They are an array with their bound in a clause: the means take them with another one, since
+// the sums of two are taken too.
 // Here and in `settle` the values are formed before the choice, so that a row of sites is decided side by side.
 pub fn decide(g: [i64; 4]) -> FirstPass
     requires { Naturals 40920 g }
@@ -152,8 +149,8 @@ pub fn trial_row(
     map: &mut [u8],
 )
     requires sized { (Sized 8184 4 (gradients.count + 4) a.now) × (Sized 8184 4 (gradients.count + 4) b.now) }
-    requires count_in_bounds { (at + gradients.count ≤ length diagonals.old) × (length diagonals.old ≤ 16777216)
-        × (length verticals.old ≡ length diagonals.old) × (length map.old ≡ length diagonals.old) }
+    requires count_in_bounds { (at + gradients.count ≤ length diagonals.old) × (length verticals.old ≡ length diagonals.old)
+        × (length map.old ≡ length diagonals.old) }
     ensures wrote { Wrote (pos 0) at gradients.entry.count
         (site_trial diagonal gradients.entry.work.now gradients.entry.east gradients.entry.south gradients.entry.north.now a.now b.now)
         diagonals.old diagonals.new }

@@ -1,12 +1,12 @@
 // The first two stages of the sweep: load, a row of the mosaic and its a; first, E, S, r_D, r_V and the codes of a row from the loaded rows.
 #![tactic(auto)]
 
-ghost use Rattle.std.specs.Prelude.{◌≡◌, List, ℕ, ◌+◌, ◌*◌, ◌<◌, length};
+ghost use Rattle.std.specs.Prelude.{◌≡◌, List, ℕ, ◌*◌, ◌<◌, length};
 ghost use Rattle.frame.specs.Sites.{frame};
 ghost use Rattle.method.specs.Green.{vertical, diagonal};
 ghost use Rattle.positions.specs.Taken.{Taken, SomeSamples};
 ghost use Rattle.positions.specs.HalfRows.{chroma_start};
-ghost use Rattle.records.specs.Layout.{record_size, top_size};
+ghost use Rattle.records.specs.Layout.{record_size};
 ghost use Rattle.mosaic_rows.specs.RingRows.{MosaicLent};
 ghost use Rattle.east_rows.specs.EastRows.{EastReads};
 ghost use Rattle.first_stage.specs.FirstStage.{LineLoaded, FirstLent, FirstStores, TopsFormed, GradientsFormed, TrialsRead, TrialsStored, CodesFormed};
@@ -14,8 +14,8 @@ ghost use Rattle.first_stage.specs.FirstStage.{LineLoaded, FirstLent, FirstStore
 use east_rows::east_line;
 use first_pass::{line_row, trial_row};
 use half_rows::{Scratch, SiteGradients, north};
-use mosaic_rows::{LoadedRows, seven_rows};
-use positions::Row;
+use mosaic_rows::{LoadedRows, SevenRows, seven_rows};
+use positions::{Halves, Row};
 use south_rows::south_line;
 
 // Row i of the mosaic and its a, to their places in the ring.
@@ -31,20 +31,20 @@ pub fn load_line(mosaic: &[u16], row: Row, loaded: &mut LoadedRows)
 }
 
 // N of row i, where no record holds it: of the rows 0 and 1.
-fn top_line(samples: &[u16; 98688], row: Row, c: usize, scratch: &mut Scratch, tops: &mut [i32])
+fn top_line(samples: &[u16; 98688], row: Row, scratch: &mut Scratch, tops: &mut [i32; 8224])
     requires some_samples { SomeSamples (λ (zs : List ℕ). MosaicLent (frame row.shape zs) row.index row.base samples.now) }
-    requires c_value { c ≡ chroma_start row.shape.phase row.index }
-    requires tops_len { length tops.old ≡ 2 * top_size }
     ensures tops_formed { TopsFormed row.shape row.index row.base samples.now tops.old tops.new }
 {
     let i = row.index;
     if i < 2 {
-        let at = seven_rows(row.shape.height, i, row.base);
-        south_line(
+        let rows = SevenRows {
             samples,
-            at,
+            at: seven_rows(row.shape.height, i, row.base),
+        };
+        south_line(
+            rows,
             row.shape,
-            c,
+            positions::first_chroma(row.shape.phase, i),
             &mut scratch.pairs,
             &mut scratch.gradients,
             tops,
@@ -53,27 +53,25 @@ fn top_line(samples: &[u16; 98688], row: Row, c: usize, scratch: &mut Scratch, t
     }
 }
 
-// E and S of row i to its record, from the rows i − 2 to i + 4, which stand from the entries of at on.
+// E and S of row i to its record, from the rows i − 2 to i + 4.
 fn gradient_line(
-    loaded: &LoadedRows,
-    at: [usize; 7],
+    rows: SevenRows<'_>,
+    alongs: &[u16; 98688],
     row: Row,
-    c: usize,
     scratch: &mut Scratch,
     work: &mut [i32],
 )
-    requires some_samples { SomeSamples (λ (zs : List ℕ). EastReads (frame row.shape zs) row.index at loaded.now.samples
-        loaded.now.alongs) }
-    requires c_value { (c ≡ chroma_start row.shape.phase row.index)
-        × (length work.old ≡ row.shape.height * record_size row.shape.width) }
-    ensures gradients_formed { GradientsFormed row.shape row.index at loaded.now.samples loaded.now.alongs work.old work.new }
+    requires some_samples { SomeSamples (λ (zs : List ℕ). EastReads (frame row.shape zs) row.index rows.at rows.samples.now
+        alongs.now) }
+    requires work_len { length work.old ≡ row.shape.height * record_size row.shape.width }
+    ensures gradients_formed { GradientsFormed row.shape row.index rows.entry.at rows.entry.samples.now
+        alongs.now work.old work.new }
 {
-    east_line(loaded, at, row, &mut scratch.gradients, work);
+    east_line(rows, alongs, row, &mut scratch.gradients, work);
     south_line(
-        &loaded.samples,
-        at,
+        rows,
         row.shape,
-        c,
+        positions::first_chroma(row.shape.phase, row.index),
         &mut scratch.pairs,
         &mut scratch.gradients,
         work,
@@ -81,41 +79,38 @@ fn gradient_line(
     );
 }
 
-// r_D and r_V of row i to the planes and its codes to the map, from the loaded rows and the gradients.
+// r_D and r_V of row i to the planes and its codes to the map, from the rows i − 2 to i + 4 and the gradients.
 fn trial_line(
-    samples: &[u16; 98688],
-    at: [usize; 7],
+    rows: SevenRows<'_>,
     row: Row,
-    c: usize,
     scratch: &mut Scratch,
-    tops: &[i32],
+    tops: &[i32; 8224],
     work: &[i32],
     diagonals: &mut [i32],
     verticals: &mut [i32],
     map: &mut [u8],
 )
-    requires some_samples { SomeSamples (λ (zs : List ℕ). TrialsRead (frame row.shape zs) row.index row.base c at samples.now
-        tops.now work.now) }
+    requires some_samples { SomeSamples (λ (zs : List ℕ). TrialsRead (frame row.shape zs) row.index row.base
+        (chroma_start row.shape.phase row.index) rows.at rows.samples.now tops.now work.now) }
     requires diagonals_len { (length diagonals.old ≡ row.shape.height * row.shape.width)
         × (length verticals.old ≡ row.shape.height * row.shape.width) × (length map.old ≡ row.shape.height * row.shape.width) }
-    ensures trials_stored { TrialsStored row.shape row.index row.base c diagonal at samples.now tops.now work.now
-        diagonals.old diagonals.new }
-    ensures trials_stored_2 { TrialsStored row.shape row.index row.base c vertical at samples.now tops.now work.now
-        verticals.old verticals.new }
-    ensures codes_formed { CodesFormed row.shape row.index row.base c at samples.now tops.now work.now
-        map.old map.new }
+    ensures trials_stored { TrialsStored row.shape row.index row.base (chroma_start row.shape.phase row.index) diagonal rows.entry.at
+        rows.entry.samples.now tops.now work.now diagonals.old diagonals.new }
+    ensures trials_stored_2 { TrialsStored row.shape row.index row.base (chroma_start row.shape.phase row.index) vertical rows.entry.at
+        rows.entry.samples.now tops.now work.now verticals.old verticals.new }
+    ensures codes_formed { CodesFormed row.shape row.index row.base (chroma_start row.shape.phase row.index) rows.entry.at
+        rows.entry.samples.now tops.now work.now map.old map.new }
 {
-    let w = row.shape.width;
-    let count = positions::half_count(w, c);
-    let to = row.index * w;
-    line_row(samples, at, c, &mut scratch.own, &mut scratch.other, count);
-    north(tops, work, row, 0, count, &mut scratch.north);
+    let halves = Halves::of(row.shape, row.index);
+    let to = row.index * row.shape.width;
+    line_row(rows, halves, &mut scratch.own, &mut scratch.other);
+    north(tops, work, row, 0, halves.count, &mut scratch.north);
     let gradients = SiteGradients {
-        work: work,
+        work,
         east: records::record_at(row),
         south: records::south_at(row),
         north: &scratch.north,
-        count: count,
+        count: halves.count,
     };
     trial_row(
         gradients,
@@ -133,7 +128,7 @@ pub fn first_line(
     loaded: &LoadedRows,
     row: Row,
     scratch: &mut Scratch,
-    tops: &mut [i32],
+    tops: &mut [i32; 8224],
     work: &mut [i32],
     diagonals: &mut [i32],
     verticals: &mut [i32],
@@ -146,20 +141,11 @@ pub fn first_line(
     ensures first_stores { FirstStores row.shape row.index row.base loaded.now.samples loaded.now.alongs
         tops.old tops.new work.old work.new diagonals.old diagonals.new verticals.old verticals.new map.old map.new }
 {
-    let c = positions::first_chroma(row.shape.phase, row.index);
-    let at = seven_rows(row.shape.height, row.index + 2, row.base);
-    top_line(&loaded.samples, row, c, scratch, tops);
-    gradient_line(loaded, at, row, c, scratch, work);
-    trial_line(
-        &loaded.samples,
-        at,
-        row,
-        c,
-        scratch,
-        tops,
-        work,
-        diagonals,
-        verticals,
-        map,
-    );
+    let rows = SevenRows {
+        samples: &loaded.samples,
+        at: seven_rows(row.shape.height, row.index + 2, row.base),
+    };
+    top_line(&loaded.samples, row, scratch, tops);
+    gradient_line(rows, &loaded.alongs, row, scratch, work);
+    trial_line(rows, row, scratch, tops, work, diagonals, verticals, map);
 }

@@ -1,10 +1,11 @@
 -- The lines of three clamped planes, and that they are the lines of the frame. Assumes nothing.
 use Rattle.std.specs.Prelude.{◌≡◌, false, ℕ, ◌*◌, ◌/◌, ◌%◌, ◌≤◌, T, ℤ, pos, negsuc, nat_abs, length, get_or}
-use Rattle.std.proofs.Common.{ap, div-add-mod', arith}
+use Rattle.std.proofs.Common.{◌∙◌, ap, div-add-mod', arith, Fits, SFits, to_z, of_z, to_z-of_z}
 use mathlib.Core.List.{List, [], ◌∷◌, ◌++◌}
 use Rattle.std.proofs.lemmas.List.{length-map}
 use Rattle.std.proofs.Math.ListN.{get_or-map}
 use Rattle.std.specs.Int.Signed.{non_neg, lt_z}
+use Rattle.std.specs.Int.{w32, w64}
 use Rattle.toolkit.specs.Tests.{by_test, ltb_ge}
 use Rattle.toolkit.specs.Raster.{length_raster}
 use Rattle.frame.specs.Sites.{Frame, Colour, red, green, blue, highest_sample}
@@ -61,6 +62,11 @@ clamped_clamped l = record {
   high = λ k. rw (getD_clamped l k) (held_high (get_or l k (pos 0)));
 }
 
+-- such a number, kept in 32 bits and read back, is not below zero and fits 64 bits
+pub cast_number : (z : ℤ) → SFits w32 z → T (non_neg z) → nat_abs z ≤ 1023
+    → T (non_neg (to_z w32 (of_z w32 z))) × Fits w64 (nat_abs (to_z w32 (of_z w32 z)))
+cast_number z f low high = rw (to_z-of_z f) (low, record { fits = omega arith })
+
 -- ---- the planes that develop and clamp leave
 
 pub length_clamped_list : (l : List ℤ) → length (clamped l) ≡ length l
@@ -70,6 +76,9 @@ length_clamped_list l = length-map l held
 pub length_plane : (f : Frame) (c : Colour) → length (plane f black_level c) ≡ f.height * f.width
 unfolding plane
 length_plane f c = length_raster f.height f.width _
+
+pub length_clamped : (f : Frame) (c : Colour) → length (clamped (plane f black_level c)) ≡ f.height * f.width
+length_clamped f c = length_clamped_list (plane f black_level c) ∙ length_plane f c
 
 module _ (f : Frame) where
   same_line : (k : ℕ)
@@ -82,5 +91,5 @@ module _ (f : Frame) where
       text_of_planes f.width (clamped (plane f black_level red)) (clamped (plane f black_level green)) (clamped (plane f black_level blue)) ≡ frame_text f
   unfolding text_of_planes frame_text
   frame_text_planes =
-      rw (length_clamped_list (plane f black_level red), length_plane f red)
+      rw (length_clamped f red)
       (ap (λ (l : List ℕ). heading ++ l) (joined_cong (f.height * f.width) _ _ (λ k h. same_line k)))

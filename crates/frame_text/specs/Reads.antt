@@ -3,6 +3,7 @@ use Rattle.std.specs.Prelude.{◌≡◌, ℕ, ◌*◌, ◌-◌, ◌<◌, ◌≤�
 use Rattle.std.proofs.Math.Path.{refl, subst}
 use Rattle.std.proofs.Common.{sym, ◌∙◌, ap, arith, take_at}
 use mathlib.Core.List.{List}
+use Rattle.std.proofs.Math.Nat.{sub-zero}
 use Rattle.toolkit.specs.Tests.{ltb_yes, ltb_no}
 use Rattle.frame.specs.declared.Shape.{Shape}
 use Rattle.frame.specs.declared.Refusal.{Refusal}
@@ -54,7 +55,7 @@ refused_by : (why : Refusal) (o : Reading) → answer_of o ≡ Err why → o ≡
 refused_by why (accepted f) a = absurd (let z : ◌≡◌ {A = ℕ} 0 1 = cc in omega arith)
 refused_by why (refused other) a = cc
 
-refusal_read : (file : List ℕ) (room : ℕ) (why : Refusal) → Err why ≡ read_answer file room → reading file room ≡ refused why
+pub refusal_read : (file : List ℕ) (room : ℕ) (why : Refusal) → Err why ≡ read_answer file room → reading file room ≡ refused why
 unfolding read_answer
 refusal_read file room why a = refused_by why (reading file room) (sym a)
 
@@ -71,16 +72,15 @@ short_printed file h = rw (ltb_no {m = 2048} {n = length file} h)
 pub refusal_printed : (file : List ℕ) (why : Refusal) → Err why ≡ read_answer file 1024 → refusal_text why ≡ text_of (reading file 1024)
 refusal_printed file why a = rw (refusal_read file 1024 why a)
 
-module _ (file before : List ℕ) (size : length before ≡ 1024) (shape : Shape) (samples : List ℕ) (a : Ok shape ≡ read_answer file 1024)
-    (left : samples ≡ samples_after_read file before) where
-  found : FrameRead file before shape
-  found = frame_read file before shape (rw size a)
+module _ (file before : List ℕ) (size : length before ≡ 1024) where
+  pub few : (shape : Shape) → Ok shape ≡ read_answer file (length before) → shape.height * shape.width ≤ 1024
+  few shape a = omega (arith, (frame_read file before shape a).enough)
 
-  pub few : shape.height * shape.width ≤ 1024
-  few = omega (arith, found.enough)
-
-  pub frame_printed : text_of_developed (frame shape (take (shape.height * shape.width) samples))
-      (develop_answer (frame shape (take (shape.height * shape.width) samples)) black_level
-      (lent (frame shape (take (shape.height * shape.width) samples))))
+  pub frame_printed : (shape : Shape) (samples : List ℕ) → Ok shape ≡ read_answer file (length before)
+      → samples ≡ samples_after_read file before
+      → text_of_developed (frame shape (take (shape.height * shape.width - 0) (drop 0 samples)))
+      (develop_answer (frame shape (take (shape.height * shape.width - 0) (drop 0 samples))) black_level
+      (lent (frame shape (take (shape.height * shape.width - 0) (drop 0 samples)))))
       ≡ text_of (reading file 1024)
-  frame_printed = rw (left, ← size, found.found)
+  frame_printed shape samples a left =
+      rw (sub-zero (shape.height * shape.width), left, ← size, (frame_read file before shape a).found)

@@ -1,5 +1,6 @@
 // Half rows: copied from a buffer between reflected entries, stored to one, and the four gradients of a site read from them. A half row is an
-// array of one size with the count of its sites beside it, since the module has no heap.
+// array of one size with the count of its sites beside it, since the module has no heap. The count is a plain number, at most 2,048 by a
+// clause: a type for it would be made from a row's `Halves` at every call, and taken apart in every loop.
 #![tactic(auto)]
 
 ghost use Rattle.std.specs.Prelude.{◌≡◌, ℕ, ◌+◌, ◌*◌, ◌-◌, ◌/◌, ◌%◌, ◌<◌, ◌≤◌, pos, length, get_or};
@@ -11,7 +12,8 @@ ghost use Rattle.half_rows.specs.Sources.{source_entry, north_entry, four_entrie
 
 use positions::Row;
 
-// A half row for each way to find green at a red or blue site: across, down, and by the mean of the two.
+// A half row for each way to find green at a red or blue site: across, down, and by the mean of the two. The last stage keeps a half row for
+// each colour in it (out_stage).
 #[derive(Drop)]
 pub struct ThreeWays {
     pub across: [i32; 2064],
@@ -36,7 +38,8 @@ pub struct Scratch {
     pub codes: [u8; 2048],
 }
 
-// Where the gradients of count sites of a half row stand: E of the row from two columns west on, S, and N.
+// Where the gradients of count sites of a half row stand: E of the row from two columns west on, S, and N. Each stage makes its own by a
+// literal: a function for it would ask the ghost fact word for word.
 #[derive(Clone, Copy)]
 pub struct SiteGradients<'a> {
     pub work: &'a [i32],
@@ -60,16 +63,17 @@ impl SiteGradients<'_> {
 // A half row, between room for four entries on each side.
 #[tactic(auto, using(std::proofs::lemmas::List::places))]
 pub fn copy(src: &[i32], at: usize, count: usize, dst: &mut [i32; 2064])
-    requires { (at + count ≤ length src.now) × (length src.now ≤ 67108864) × (count ≤ 2048) }
+    requires { (at + count ≤ length src.now) × (count ≤ 2048) }
     ensures { Entries (pos 0) 2064 4 (count + 4)
         (λ (x : ℕ). get_or src.now (at + (x - 4)) (pos 0)) dst.new }
 {
     dst[4..count + 4].copy_from_slice(&src[at..at + count]);
 }
 
-// Stores a half row from position at on.
+// Stores a half row from position at on. A buffer is handed on whole, with the position: so one clause (`Wrote`) tells all its entries, where
+// of a part each caller would have to say what the whole is then.
 pub fn store(src: &[i32; 2064], count: usize, dst: &mut [i32], at: usize)
-    requires { (count ≤ 2048) × (at + count ≤ length dst.old) × (length dst.old ≤ 67108864) }
+    requires { (count ≤ 2048) × (at + count ≤ length dst.old) }
     ensures { Wrote (pos 0) at count (λ (k : ℕ). get_or src.now (k + 4) (pos 0)) dst.old dst.new }
 {
     dst[at..at + count].copy_from_slice(&src[4..count + 4]);
@@ -99,7 +103,14 @@ pub fn mirror(row: &mut [i32; 2064], w: usize, c: usize, t: usize)
 }
 
 // N of count sites of row i, from entry at of the row on: S of row i − 2, and that of the top rows in tops.
-pub fn north(tops: &[i32], work: &[i32], row: Row, at: usize, count: usize, n: &mut [i32; 2064])
+pub fn north(
+    tops: &[i32; 8224],
+    work: &[i32],
+    row: Row,
+    at: usize,
+    count: usize,
+    n: &mut [i32; 2064],
+)
     requires { NorthRoom row.shape.width row.index row.base at count tops.now work.now }
     ensures { Entries (pos 0) 2064 4 (count + 4)
         (λ (x : ℕ). north_entry tops.now work.now row.shape.width row.index (at + (x - 4))) n.new }
@@ -108,18 +119,13 @@ pub fn north(tops: &[i32], work: &[i32], row: Row, at: usize, count: usize, n: &
     if i < 2 {
         copy(tops, i * 4112 + at, count, n);
     } else {
-        let two_up = Row {
-            shape: row.shape,
-            index: i - 2,
-            base: row.base,
-        };
-        copy(work, records::south_at(two_up) + at, count, n);
+        copy(work, records::south_at(row.at(i - 2)) + at, count, n);
     }
 }
 
 // The four gradients of a site, E, W, S, N: E of the half row stands from two columns west on.
 pub fn four(work: &[i32], east: usize, south: usize, n: &[i32; 2064], k: usize) -> [i64; 4]
-    requires { (k < 2048) × (east + k + 1 < length work.now) × (south + k < length work.now) × (length work.now ≤ 67108864) }
+    requires { (k < 2048) × (east + k + 1 < length work.now) × (south + k < length work.now) }
     ensures { result ≡ four_entries work.now east south n.now k }
 {
     let west_at = east + k;

@@ -1,12 +1,14 @@
 -- The mean by products, as the code forms it. All weights are times the product of the four gradients, so that each is the product of
 -- the other three; where the sum of the weights is 0, two gradients or more are 0, and the values of those alone count. Assumes nothing.
-use Rattle.std.specs.Prelude.{◌≡◌, refl, List, ℕ, zero, suc, ◌+◌, ◌*◌, ◌/◌, ◌^◌, ◌<◌, ◌≤◌, eqb, pos, ◌+ℤ◌, ◌*ℤ◌, ◌≤ℤ◌, ◌<ℤ◌}
+use Rattle.std.specs.Prelude.{◌≡◌, refl, List, ℕ, zero, suc, ◌+◌, ◌*◌, ◌/◌, ◌^◌, ◌<◌, ◌≤◌, eqb, get_or, ℤ, pos, ◌+ℤ◌, ◌*ℤ◌, ◌≤ℤ◌, ◌<ℤ◌}
 use Rattle.std.proofs.Common.{sym, ◌∙◌, mul-le-mul, div-add-mod', mod-lt, arith}
 use Rattle.toolkit.specs.Orders.{to_naturals}
 use Rattle.toolkit.specs.Rounding.{round_half_up, round_is}
 use Rattle.toolkit.specs.Tests.{by_test, eqb_eq}
 use Rattle.method.specs.Gradients.{FourDirections}
 use Rattle.method.specs.Planes.{inner_round, one_if_zero, count_zeros, weight, weights, times, sum_of_four, weighted_sum, total, weighted_mean}
+use Rattle.method.specs.Sizes.{AtMost}
+use Rattle.method.proofs.Sizes.{weaker}
 use Rattle.means.specs.Naturals.{numbers, signed, NaturalMeanFits}
 
 abbrev four : ℕ → ℕ → ℕ → ℕ → FourDirections ℕ
@@ -102,13 +104,37 @@ some_zero g h = zeros_of _ _ _ _ h
 
 -- ---- the sums fit a u64
 
+product_below : (x y : ℕ) → x ≤ 81856 → y ≤ 81856 → x * y < 2 ^ 64
+product_below x y p q = omega (arith, mul-le-mul p q)
+
 pair_most : (x y z u a b : ℕ) → x ≤ a → y ≤ b → z ≤ a → u ≤ b → x * y + z * u ≤ 2 * (a * b)
 pair_most x y z u a b p q r s = omega (arith, mul-le-mul p q, mul-le-mul r s)
+
+pair_below : (x y z u : ℕ) → x ≤ 65535 → y ≤ 81856 → z ≤ 65535 → u ≤ 81856 → x * y + z * u < 2 ^ 64
+pair_below x y z u p q r s = omega (arith, mul-le-mul p q, mul-le-mul r s)
 
 sum_most : (x y b : ℕ) → x ≤ b → y ≤ b → x + y ≤ 2 * b
 sum_most x y b p q = omega arith
 
 module _ (v g : List ℕ) (r : NaturalMeanFits v g) where
+  abbrev values : AtMost 65535 (numbers v)
+  values = weaker r.value_most r.values
+
+  abbrev gradients : AtMost 81856 (numbers g)
+  gradients = weaker r.gradient_most r.gradients
+
+  pub across_below : get_or g 0 0 * get_or g 1 0 < 2 ^ 64
+  across_below = product_below _ _ gradients.east_most gradients.west_most
+
+  pub down_below : get_or g 2 0 * get_or g 3 0 < 2 ^ 64
+  down_below = product_below _ _ gradients.south_most gradients.north_most
+
+  pub values_across_below : get_or v 0 0 * get_or g 1 0 + get_or v 1 0 * get_or g 0 0 < 2 ^ 64
+  values_across_below = pair_below _ _ _ _ values.east_most gradients.west_most values.west_most gradients.east_most
+
+  pub values_down_below : get_or v 2 0 * get_or g 3 0 + get_or v 3 0 * get_or g 2 0 < 2 ^ 64
+  values_down_below = pair_below _ _ _ _ values.south_most gradients.north_most values.north_most gradients.south_most
+
   pub quotient_below : numerator (numbers v) (numbers g) + denominator (numbers g) < 2 ^ 64
   quotient_below =
       let g0 = r.gradients.east_most in
@@ -126,3 +152,15 @@ module _ (v g : List ℕ) (r : NaturalMeanFits v g) where
       together : (x y a b : ℕ) → x ≤ 2 * (2 * (a * b) * (b * b)) → y ≤ 2 * (2 * b * (b * b))
           → (a + 1) * (b * (b * b)) ≤ 4600000000000000000 → x + y < 2 ^ 64
       together x y a b p q h = omega arith
+
+-- ---- from what the code formed to the mean
+
+pub same_sum : {a b x y : ℕ} (p q : ℕ) → a ≡ x → b ≡ y → a * p + b * q ≡ x * p + y * q
+same_sum p q e f = cc
+
+pub above_zero : {d : ℕ} → ¬ (d ≡ 0) → 0 < d
+above_zero {d = zero} h = absurd (h refl)
+above_zero {d = suc d} h = omega arith
+
+pub same_round : {z : ℤ} {n m d e : ℕ} → z ≡ round_half_up (pos n) d → n ≡ m → d ≡ e → z ≡ round_half_up (pos m) e
+same_round r p q = cc

@@ -74,14 +74,15 @@ fn natural_mean(v: [u64; 4], g: [u64; 4]) -> u64
 }
 
 // The same four numbers, none of them negative, as unsigned ones.
+#[tactic(auto, using(crate::specs::Listed::four_listed, crate::specs::Listed::unsigned_is))]
 fn naturals(v: [i64; 4]) -> [u64; 4]
     requires { Naturals 1000000 v }
     ensures { result ≡ unsigned v }
 {
-    [v[0] as u64, v[1] as u64, v[2] as u64, v[3] as u64]
+    v.map(i64::cast_unsigned)
 }
 
-// reach added to each of four values.
+// reach added to each of four values, entry by entry: `map` asks that its closure's sums fit, and the proof of that is longer than the line.
 fn lifted(v: [i64; 4], reach: i64) -> [i64; 4]
     requires { LiftFits v reach }
     ensures { result ≡ lifted_values v reach }
@@ -93,12 +94,7 @@ fn lifted(v: [i64; 4], reach: i64) -> [i64; 4]
 pub fn values(east: i32, west: i32, south: i32, north: i32) -> [i64; 4]
     ensures { result ≡ (east ∷ west ∷ south ∷ north ∷ []) }
 {
-    [
-        i64::from(east),
-        i64::from(west),
-        i64::from(south),
-        i64::from(north),
-    ]
+    [east, west, south, north].map(i64::from)
 }
 
 // The weighted mean of values from −reach to reach, lifted by reach so that the division is of unsigned numbers.

@@ -2,6 +2,7 @@
 use Rattle.std.specs.Prelude.{◌≡◌, refl, List, ℕ, ◌+◌, ◌-◌, ◌<◌, ◌≤◌, eqb, pos, length, get_or, set}
 use Rattle.std.proofs.Common.{sym, ◌∙◌, ap, arith, length-set, get_or-set_same, get_or-set_other}
 use Rattle.toolkit.specs.Tests.{by_test, eqb_eq, eqb_ne}
+use Rattle.toolkit.specs.Writes.{Wrote}
 use Rattle.frame.specs.Sites.{reflect}
 use Rattle.positions.specs.Columns.{column_at}
 use Rattle.positions.specs.ColumnLaws.{column_is, column_inside}
@@ -73,3 +74,12 @@ reflected_turn w to k west east {old} {new} h a b room s p q =
     front = reflected_front w to old new (9 - k) (w + 7 + k) (to + 8 - k) (8 - k) _ s (omega arith) (omega arith)
         (reflected_read west (8 - k) s h (omega arith) (omega arith) p.1 (p.0 ∙ column_is w (8 - k) k h (omega arith)))
         (omega arith) (omega arith)
+
+pub reflected_all : {w to lo hi : ℕ} {old new : List ℕ} → Reflected w to lo hi old new → lo ≡ 0 → hi ≡ w + 16
+    → Wrote 0 to (w + 16) (λ (x : ℕ). get_or old (to + 8 + column_at w x) 0) old new
+reflected_all s a b = record {
+  size = s.size;
+  inside = λ k h. s.inside k (omega arith) (omega arith);
+  before = λ k h. s.before k (omega arith);
+  after = λ k h. s.after k (omega arith);
+}

@@ -1,14 +1,21 @@
 -- What the loading of a row leaves, and of seven rows. Assumes nothing.
-use Rattle.std.specs.Prelude.{◌≡◌, refl, List, ℕ, zero, suc, ◌+◌, ◌*◌, ◌<◌, ◌≤◌, get_or}
+use Rattle.std.specs.Prelude.{◌≡◌, refl, List, [], ◌∷◌, ℕ, zero, suc, ◌+◌, ◌*◌, ◌<◌, ◌≤◌, length, get_or}
 use Rattle.std.proofs.Common.{◌∙◌, arith}
 use Rattle.toolkit.specs.Writes.{Wrote}
 use Rattle.frame.specs.Sites.{Frame, sample}
 use Rattle.positions.specs.Columns.{column_at}
 use Rattle.positions.specs.ColumnLaws.{column_lt}
+use Rattle.positions.specs.Places.{plane_row}
 use Rattle.positions.specs.Taken.{Taken}
 use Rattle.positions.specs.Rings.{place_in_ring}
 use Rattle.positions.specs.RingLaws.{ring_small}
 use Rattle.mosaic_rows.specs.LoadedRows.{RowStored, Loaded, near_row, near_entry, near_entries, Seven}
+
+-- row i lies inside the mosaic
+pub row_inside : (f : Frame) (i : ℕ) → Taken f → i < f.height → (i * f.width + f.width ≤ length f.samples) × (i * f.width ≤ 16777216)
+row_inside f i t h =
+    let row = plane_row f i f.width t h (omega arith) in
+    (omega (arith, t.full), omega arith)
 
 -- the columns, then the reflected ones
 pub row_stored : (f : Frame) (i to : ℕ) {old mid new : List ℕ} → 2 ≤ f.width
@@ -29,6 +36,11 @@ loaded w = record { entry = w.inside }
 pub loaded_ranged : (f : Frame) (i at x : ℕ) (rows : List ℕ) → Taken f → Loaded f i at rows → x < f.width + 16 → get_or rows (at + x) 0 ≤ 1023
 unfolding sample
 loaded_ranged f i at x rows t l h = omega (arith, l.entry x h, t.ranged (i * f.width + column_at f.width x))
+
+-- seven entries that are the same one by one
+pub same_seven : {a b c d e f g a' b' c' d' e' f' g' : ℕ} → a ≡ a' → b ≡ b' → c ≡ c' → d ≡ d' → e ≡ e' → f ≡ f' → g ≡ g'
+    → ◌≡◌ {A = List ℕ} (a ∷ b ∷ c ∷ d ∷ e ∷ f ∷ g ∷ []) (a' ∷ b' ∷ c' ∷ d' ∷ e' ∷ f' ∷ g' ∷ [])
+same_seven p q r s t u v = cc
 
 -- the entries, one by one
 pub near_at : (H x p : ℕ) → p < 7 → get_or (near_entries H x) p 0 ≡ near_entry H x p

@@ -10,12 +10,22 @@ ghost use Rattle.positions.specs.Rings.{place_in_ring, Round};
 ghost use Rattle.mosaic_rows.specs.LoadedRows.{RowStored, NearRows, near_entry, near_entries};
 
 use frame::Shape;
+use std::array;
 
-// The loaded rows, and a at their entries.
+// The loaded rows, and a at their entries. Each is one array and no array of rows: the definitions of specs/ tell the ring as one list. They are
+// two arrays, since every loop but that of E reads only one.
 #[derive(Drop)]
 pub struct LoadedRows {
     pub samples: [u16; 98688],
     pub alongs: [u16; 98688],
+}
+
+// The samples of the loaded rows, and the entries where seven of them start, of which a line is formed. No ghost field: what functions ask of
+// the samples differs, how many of the rows and of their entries, and one fact for all would ask more of some callers.
+#[derive(Clone, Copy)]
+pub struct SevenRows<'a> {
+    pub samples: &'a [u16; 98688],
+    pub at: [usize; 7],
 }
 
 // The w samples from entry at on, as the columns of the row at entry to.
@@ -73,13 +83,5 @@ pub fn seven_rows(h: usize, x: usize, base: usize) -> [usize; 7]
     requires near_rows { NearRows h x base }
     ensures { result ≡ near_entries h x }
 {
-    [
-        near_row(h, x, 0, base),
-        near_row(h, x, 1, base),
-        near_row(h, x, 2, base),
-        near_row(h, x, 3, base),
-        near_row(h, x, 4, base),
-        near_row(h, x, 5, base),
-        near_row(h, x, 6, base),
-    ]
+    array::from_fn(|p| near_row(h, x, p, base))
 }

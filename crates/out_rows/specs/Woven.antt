@@ -44,5 +44,8 @@ woven_turned x g j = by_parity (j % 2) (omega arith)
     by_parity (suc zero) h = refl
     by_parity (suc (suc m)) h = absurd (omega arith)
 
+pub woven_zero : (x g : List ℤ) (c j : ℕ) → c ≡ 0 → woven 0 x g j ≡ woven c x g j
+woven_zero x g c j e = rw e
+
 pub woven_one : (x g : List ℤ) (c j : ℕ) → c ≡ 1 → woven 0 g x j ≡ woven c x g j
 woven_one x g c j e = rw e (woven_turned x g j)

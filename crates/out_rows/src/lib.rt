@@ -12,10 +12,9 @@ ghost use Rattle.records.specs.Layout.{record_size, final_part, other_part};
 ghost use Rattle.half_rows.specs.Sources.{Sized};
 ghost use Rattle.out_rows.specs.Woven.{woven};
 ghost use Rattle.out_rows.specs.RowPlaces.{RowOf, Placed};
-ghost use Rattle.out_rows.specs.DirectMeans.{own_mean, other_mean, DirectReads};
 
 use half_rows::SiteGradients;
-use positions::Row;
+use positions::{Halves, Row};
 
 // Where the differences of a row start in work: the final ones, and those of the other colour.
 #[derive(Clone, Copy)]
@@ -27,7 +26,7 @@ pub struct Differences {
 // The halves of a row, and where the numbers start in work that its outputs are formed from.
 #[derive(Clone, Copy)]
 pub struct Places {
-    // the first red or blue column, how many of them the row has, and how many green ones
+    // the first red or blue column, how many of them the row has, and how many green ones: what `Halves` has, by the names of the definitions
     pub start: usize,
     pub count: usize,
     pub rest: usize,
@@ -40,48 +39,51 @@ pub struct Places {
     pub above: Differences,
 }
 
-// Where the differences of the row at index start, of the same frame as row.
-fn differences_of(row: Row, index: usize) -> Differences
-    requires { (index ≤ 4096) × (Round row.base index index) }
-    ensures finals { result.finals ≡ place_in_ring index * record_size row.shape.width + final_part row.shape.width }
-    ensures others { result.others ≡ place_in_ring index * record_size row.shape.width + other_part row.shape.width }
+// A row with its places.
+#[derive(Clone, Copy)]
+pub struct PlacedRow {
+    pub row: Row,
+    pub places: Places,
+    ghost placed: { Placed row.shape row.index places },
+}
+
+// Where the differences of a row start.
+fn differences_of(row: Row) -> Differences
+    ensures finals { result.finals ≡ place_in_ring row.index * record_size row.shape.width + final_part row.shape.width }
+    ensures others { result.others ≡ place_in_ring row.index * record_size row.shape.width + other_part row.shape.width }
 {
-    let that = Row {
-        shape: row.shape,
-        index: index,
-        base: row.base,
-    };
     Differences {
-        finals: records::final_at(that),
-        others: records::other_at(that),
+        finals: records::final_at(row),
+        others: records::other_at(row),
     }
 }
 
 // The places of a row, which is the site's own.
-pub fn row_places(row: Row) -> Places
+#[tactic(auto, using(crate::specs::PlaceLaws::south_record, crate::specs::PlaceLaws::north_record))]
+pub fn row_places(row: Row) -> PlacedRow
     requires { (RowOf row.shape row.index) × (Round row.base (row.index - 4) (row.index + 4)) }
-    ensures { Placed row.shape row.index result }
+    ensures { result.row ≡ row }
 {
-    let w = row.shape.width;
     let h = row.shape.height;
     let i = row.index;
-    let start = positions::first_chroma(row.shape.phase, i);
-    let count = positions::half_count(w, start);
-    let down = positions::row_below(h, i, 1, 0);
-    let up = positions::row_above(h, i, 1, 0);
-    Places {
-        start: start,
-        count: count,
-        rest: w - count,
+    let Halves { start, count, rest } = Halves::of(row.shape, i);
+    let below = row.at(positions::row_below(h, i, 1, 0));
+    let above = row.at(positions::row_above(h, i, 1, 0));
+    let places = Places {
+        start,
+        count,
+        rest,
         east: records::record_at(row) + (count + 1),
         south: records::south_at(row) + count,
-        here: differences_of(row, i),
-        below: differences_of(row, down),
-        above: differences_of(row, up),
-    }
+        here: differences_of(row),
+        below: differences_of(below),
+        above: differences_of(above),
+    };
+    PlacedRow { row, places }
 }
 
 // The samples at the columns c, c + 2, .. of the row that is loaded at entry at.
+#[tactic(auto, using(toolkit::specs::Entries::entries_next))]
 pub fn samples(rows: &[u16; 98688], at: usize, c: usize, count: usize, dst: &mut [i32; 2064])
     requires { (c ≤ 1) × (count ≤ 2048) × (at + 4112 ≤ 98688) }
     ensures { Entries (pos 0) 2064 4 (count + 4) (λ (x : ℕ). pos (get_or rows.now (at + (c + 2 * (x - 4) + 8)) 0))
@@ -101,59 +103,59 @@ fn direct_mean(east: i32, west: i32, south: i32, north: i32, g: [i64; 4]) -> i32
     means::lifted_mean(means::values(east, west, south, north), g, 4096) as i32
 }
 
-// At the green sites of a row the means of the four direct neighbours: of the colour of the row's red or blue sites, and of the other.
-pub fn direct_means(
-    work: &[i32],
-    p: Places,
-    n: &[i32; 2064],
-    own: &[i32; 2064],
-    other: &[i32; 2064],
-    x: &mut [i32; 2064],
-    y: &mut [i32; 2064],
-)
-    requires direct_reads { DirectReads p work.now n.now own.now other.now }
-    ensures entries { Entries (pos 0) 2064 4 (p.rest + 4) (λ (k : ℕ). own_mean p work.now n.now
-        own.now (k - 4)) x.new }
-    ensures entries_2 { Entries (pos 0) 2064 4 (p.rest + 4) (λ (k : ℕ). other_mean p work.now n.now
-        other.now (k - 4)) y.new }
-{
-    let start = p.start;
-    let rest = p.rest;
-    let below = p.below;
-    let above = p.above;
-    let finals_south = below.finals;
-    let finals_north = above.finals;
-    let others_south = below.others;
-    let others_north = above.others;
-    let gradients = SiteGradients {
-        work: work,
-        east: p.east,
-        south: p.south,
-        north: n,
-        count: rest,
-    };
-    for k in 0..rest {
-        let g = gradients.at(k);
-        let west = k + 4 - start;
-        let east = west + 1;
-        x[k + 4] = direct_mean(
-            own[east],
-            own[west],
-            work[others_south + k],
-            work[others_north + k],
-            g,
-        );
-        y[k + 4] = direct_mean(
-            other[east],
-            other[west],
-            work[finals_south + k],
-            work[finals_north + k],
-            g,
-        );
+impl Places {
+    ghost use Rattle.out_rows.specs.DirectMeans.{own_mean, other_mean, DirectReads};
+
+    // At the green sites of a row the means of the four direct neighbours: of the colour of the row's red or blue sites, and of the other.
+    pub fn direct_means(
+        self,
+        work: &[i32],
+        n: &[i32; 2064],
+        own: &[i32; 2064],
+        other: &[i32; 2064],
+        x: &mut [i32; 2064],
+        y: &mut [i32; 2064],
+    )
+        requires direct_reads { DirectReads self work.now n.now own.now other.now }
+        ensures entries { Entries (pos 0) 2064 4 (self.rest + 4) (λ (k : ℕ). own_mean self work.now n.now
+            own.now (k - 4)) x.new }
+        ensures entries_2 { Entries (pos 0) 2064 4 (self.rest + 4) (λ (k : ℕ). other_mean self work.now n.now
+            other.now (k - 4)) y.new }
+    {
+        let start = self.start;
+        let below = self.below;
+        let above = self.above;
+        let gradients = SiteGradients {
+            work,
+            east: self.east,
+            south: self.south,
+            north: n,
+            count: self.rest,
+        };
+        for k in 0..self.rest {
+            let g = gradients.at(k);
+            let west = k + 4 - start;
+            let east = west + 1;
+            x[k + 4] = direct_mean(
+                own[east],
+                own[west],
+                work[below.others + k],
+                work[above.others + k],
+                g,
+            );
+            y[k + 4] = direct_mean(
+                other[east],
+                other[west],
+                work[below.finals + k],
+                work[above.finals + k],
+                g,
+            );
+        }
     }
 }
 
-// A colour at green sites: 4·G less its difference, which m holds, as an output.
+// A colour at green sites: 4·G less its difference, which m holds, as an output. The black level is an i32 with its bound in a clause, here, below
+// and in site_values: as a u8 it would be turned to one in every loop, and below 0 it could not be.
 pub fn green_sites(z: &[i32; 2064], black: i32, m: &mut [i32; 2064], count: usize)
     requires { (count ≤ 2048) × (Sized 4096 4 (count + 4) z.now) × (Sized 4096 4 (count + 4) m.old) × (nat_abs black ≤ 255) }
     ensures { Entries (pos 0) 2064 4 (count + 4) (λ (x : ℕ). final_round (pos 4 *ℤ get_or z.now x (pos 0) -ℤ get_or
@@ -201,9 +203,10 @@ pub fn measured(z: &mut [i32; 2064], black: i32, count: usize)
 
 // A row of w columns from entry at on: the even ones, and the odd ones.
 fn weave_row(even: &[i32; 2064], odd: &[i32; 2064], out: &mut [i32], at: usize, w: usize)
-    requires { (2 ≤ w) × (w ≤ 4096) × (at + w ≤ length out.old) × (length out.old ≤ 67108864) }
+    requires { (2 ≤ w) × (w ≤ 4096) × (at + w ≤ length out.old) }
     ensures { Wrote (pos 0) at w (woven 0 even.now odd.now) out.old out.new }
 {
+    // by number: of what is written through chunks_exact_mut a proof knows no entry
     for k in 0..w / 2 {
         out[at + 2 * k] = even[k + 4];
         out[at + (2 * k + 1)] = odd[k + 4];
@@ -214,8 +217,9 @@ fn weave_row(even: &[i32; 2064], odd: &[i32; 2064], out: &mut [i32], at: usize, 
 }
 
 // A row of w columns: those of c's parity, and the others.
+#[tactic(auto, using(crate::specs::Woven::woven_one))]
 pub fn weave(x: &[i32; 2064], g: &[i32; 2064], out: &mut [i32], at: usize, c: usize, w: usize)
-    requires { (c ≤ 1) × (2 ≤ w) × (w ≤ 4096) × (at + w ≤ length out.old) × (length out.old ≤ 67108864) }
+    requires { (c ≤ 1) × (2 ≤ w) × (w ≤ 4096) × (at + w ≤ length out.old) }
     ensures { Wrote (pos 0) at w (woven c x.now g.now) out.old out.new }
 {
     if c == 0 {

@@ -184,3 +184,6 @@ module _ (shape : Shape) (zs : List ℕ) (i : ℕ) (p : Places) (placed : Placed
           ap₂ weighted_mean (other_beside k l) (ap (λ (g : List ℤ). sizes (directions g)) (gradients_are k l))
           ∙ mean_beside f taken (trade (row_colour shape.phase i)) (others f) (finals f) i _ (green_column _ k (chroma_small shape.phase i))
           (λ a b e. other_difference f _ a b (e ∙ sym (trade_twice (row_colour shape.phase i)))) (λ a b e. own_difference (mosaic f) _ a b e)
+
+-- how large a row's halves are, and that its own differences lie in work
+pub ruleset place_laws = (start_small, count_few, rest_few, both_inside, finals_inside, others_inside)

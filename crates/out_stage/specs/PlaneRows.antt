@@ -17,6 +17,10 @@ use Rattle.out_stage.specs.OutRows.{ChromaHalf, GreenHalf, DifferencesFormed, Ou
 use Rattle.out_stage.specs.HalfLaws.{half_as, woven_half}
 use Rattle.out_stage.specs.RowOutputs.{outputs_read}
 
+-- where row i starts in a plane
+pub row_start : (shape : Shape) (i : ℕ) → RowOf shape i → i * shape.width ≤ 16777216
+row_start shape i r = omega (arith, row_end shape.height shape.width i r.inside, area shape.height shape.width r.low r.narrow)
+
 module _ (shape : Shape) (i start : ℕ) (r : RowOf shape i) (e : start ≡ chroma_start shape.phase i) where
   small : start ≤ 1
   small = rw e (chroma_small shape.phase i)

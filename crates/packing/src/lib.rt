@@ -18,6 +18,7 @@ pub fn pack(samples: [u16; 4]) -> [u8; 5]
     requires { Below 1024 samples }
     ensures { result ≡ packed samples }
 {
+    // Entry by entry: the fifth byte is made otherwise, so `from_fn` would give four of the five.
     let [a, b, c, d] = samples;
     [
         (a >> 2) as u8,
@@ -40,13 +41,7 @@ fn join_bits(high: u8, low: u8) -> u16
 pub fn unpack(bytes: [u8; 5]) -> [u16; 4]
     ensures { result ≡ unpacked bytes }
 {
-    let [a, b, c, d, low] = bytes;
-    [
-        join_bits(a, low),
-        join_bits(b, low >> 2),
-        join_bits(c, low >> 4),
-        join_bits(d, low >> 6),
-    ]
+    std::array::from_fn(|i| join_bits(bytes[i], bytes[4] >> (2 * i)))
 }
 
 // Copies bytes into a slice, from position `at` on.

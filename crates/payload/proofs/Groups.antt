@@ -1,6 +1,6 @@
 -- Laws of groups in a payload and in a slice of samples. Assumes nothing.
 use mathlib.Core.Path.{◌≡◌, refl, sym, ◌∙◌, ap, ap₂}
-use mathlib.Core.List.{List, [], ◌∷◌, ◌++◌, append-nil}
+use mathlib.Core.List.{List, ◌++◌, append-nil}
 use Prim.Native.Nat.{ℕ, zero, suc, ◌+◌, ◌-◌, ◌*◌, ◌/◌, ◌%◌, ◌≤◌, ◌<◌}
 use native.Mathlib.Nat.{add-zero}
 use native.Mathlib.Omega.{arith}
@@ -11,32 +11,26 @@ use borrow.Rule.Slice.PartMut.{put_mid}
 use Rattle.std.specs.List.{list_all, range_with_len}
 use Rattle.std.proofs.lemmas.List.{take-take, take_all}
 use Rattle.std.proofs.lemmas.Slice.{take-put_mid}
-use Rattle.frame_file.specs.Lists.{part, get_d_part, joined, part_joined, getD_append_zeros, put_at, put_at_joined, all_zero, all_zero_drop, all_zero_past, Below}
+use Rattle.frame_file.specs.Lists.{part, get_d_part, joined, part_joined, getD_append_zeros, put_at, put_at_joined, all_zero, all_zero_drop, all_zero_past}
 use Rattle.frame_file.specs.FrameFile.{filled_up, packed, unpacked, packed_payload, unpacked_payload}
 use Rattle.frame_file.proofs.Raw10.{length_packed, length_unpacked}
 
 -- ---- groups of samples
-
-pub four_below : (a b c d : ℕ) → a < 1024 → b < 1024 → c < 1024 → d < 1024 → Below 1024 (a ∷ b ∷ c ∷ d ∷ [])
-four_below a b c d h i j k zero = h
-four_below a b c d h i j k (suc zero) = i
-four_below a b c d h i j k (suc (suc zero)) = j
-four_below a b c d h i j k (suc (suc (suc zero))) = k
-four_below a b c d h i j k (suc (suc (suc (suc t)))) = omega arith
 
 -- entry t of group g of samples that are filled up
 getD_group : (s : List ℕ) (g t : ℕ) → t < 4 → get_or (part (filled_up s) (4 * g) 4) t 0 ≡ get_or s (4 * g + t) 0
 unfolding filled_up
 getD_group s g t h = get_d_part (filled_up s) (4 * g) 4 t h ∙ getD_append_zeros s _ (4 * g + t)
 
-pub packed_group : (s : List ℕ) (g a b c d : ℕ) → a ≡ get_or s (4 * g) 0 → b ≡ get_or s (4 * g + 1) 0 → c ≡ get_or s (4 * g + 2) 0
-    → d ≡ get_or s (4 * g + 3) 0
-    → packed (a ∷ b ∷ c ∷ d ∷ []) ≡ packed (part (filled_up s) (4 * g) 4)
+-- four samples, or 0 past the last, are group g of the samples that are filled up
+pub packed_group : (s group : List ℕ) (g : ℕ) → get_or group 0 0 ≡ get_or s (4 * g) 0 → get_or group 1 0 ≡ get_or s (4 * g + 1) 0
+    → get_or group 2 0 ≡ get_or s (4 * g + 2) 0 → get_or group 3 0 ≡ get_or s (4 * g + 3) 0
+    → packed group ≡ packed (part (filled_up s) (4 * g) 4)
 unfolding packed
-packed_group s g a b c d ea eb ec ed =
-    let first : get_or (part (filled_up s) (4 * g) 4) 0 0 ≡ a = getD_group s g 0 (omega arith)
-    ∙ ap (λ (k : ℕ). get_or s k 0) (add-zero (4 * g)) ∙ sym ea in
-    rw (first, getD_group s g 1 (omega arith), getD_group s g 2 (omega arith), getD_group s g 3 (omega arith), eb, ec, ed)
+packed_group s group g ea eb ec ed =
+    let first : get_or (part (filled_up s) (4 * g) 4) 0 0 ≡ get_or s (4 * g) 0 =
+    getD_group s g 0 (omega arith) ∙ ap (λ (k : ℕ). get_or s k 0) (add-zero (4 * g)) in
+    rw (first, getD_group s g 1 (omega arith), getD_group s g 2 (omega arith), getD_group s g 3 (omega arith), ea, eb, ec, ed)
 
 -- the group that is stored next in a payload
 abbrev pub group_of : List ℕ → ℕ → List ℕ
@@ -58,22 +52,6 @@ unfolding packed_payload
 stored_all s before g all size = rw (all, drop_of_length-le before size) (append-nil (joined 100 (group_of s)))
 
 -- ---- groups of bytes
-
-pub unpacked_group : (p : List ℕ) (g : ℕ)
-    → unpacked
-    (get_or p (5 * g) 0 ∷ get_or p (5 * g + 1) 0 ∷ get_or p (5 * g + 2) 0 ∷ get_or p (5 * g + 3) 0 ∷ get_or p (5 * g + 4) 0 ∷ []) ≡ unpacked
-    (part p (5 * g) 5)
-unfolding unpacked
-unpacked_group p g =
-    let first : get_or (part p (5 * g) 5) 0 0 ≡ get_or p (5 * g) 0 = get_d_part p (5 * g) 5 0 (omega arith)
-    ∙ ap (λ (k : ℕ). get_or p k 0) (add-zero (5 * g)) in
-    rw (
-      first,
-      get_d_part p (5 * g) 5 1 (omega arith),
-      get_d_part p (5 * g) 5 2 (omega arith),
-      get_d_part p (5 * g) 5 3 (omega arith),
-      get_d_part p (5 * g) 5 4 (omega arith),
-    )
 
 -- group g of the samples of a payload
 group_part : (p : List ℕ) (g : ℕ) → g < 100 → part (unpacked_payload p) (4 * g) 4 ≡ unpacked (part p (5 * g) 5)

@@ -14,19 +14,13 @@ fn sample_or_zero(samples: &[u16], k: usize) -> u16
 }
 
 // Group g of the samples, filled up with zeros, in five bytes.
-#[tactic(auto, using(crate::proofs::Groups::four_below, crate::proofs::Groups::packed_group))]
+#[tactic(auto, using(crate::proofs::Groups::packed_group))]
 fn pack_group(samples: &[u16], g: usize) -> [u8; 5]
     requires below { Below 1024 samples.now }
     requires g_bound { g < 100 }
     ensures { result ≡ packed (part (filled_up samples.now) (4 * g) 4) }
 {
-    let k = 4 * g;
-    packing::pack([
-        sample_or_zero(samples, k),
-        sample_or_zero(samples, k + 1),
-        sample_or_zero(samples, k + 2),
-        sample_or_zero(samples, k + 3),
-    ])
+    packing::pack(std::array::from_fn(|i| sample_or_zero(samples, 4 * g + i)))
 }
 
 // The payload of samples, filled up with zeros.
@@ -43,19 +37,12 @@ pub fn pack_payload(samples: &[u16]) -> [u8; 500]
 }
 
 // The four samples of group g of a payload.
-#[tactic(auto, using(crate::proofs::Groups::unpacked_group))]
+#[tactic(auto, using(frame_file::specs::Lists::slice_part))]
 fn unpack_group(payload: &[u8; 500], g: usize) -> [u16; 4]
     requires { g < 100 }
     ensures { result ≡ unpacked (part payload.now (5 * g) 5) }
 {
-    let k = 5 * g;
-    packing::unpack([
-        payload[k],
-        payload[k + 1],
-        payload[k + 2],
-        payload[k + 3],
-        payload[k + 4],
-    ])
+    packing::unpack(payload[5 * g..5 * g + 5].try_into().unwrap())
 }
 
 // Sample k of a payload.

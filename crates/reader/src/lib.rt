@@ -21,8 +21,8 @@ fn header_of(block: &[u8; 512]) -> Shape
     ensures { result ≡ header block.now }
 {
     Shape {
-        width: block::number_of_two(block, 8),
-        height: block::number_of_two(block, 10),
+        width: block::number::<2>(block, 8),
+        height: block::number::<2>(block, 10),
         phase: usize::from(block[12]),
     }
 }

@@ -3,6 +3,7 @@ use Rattle.std.specs.Prelude.{◌≡◌, Bool, true, false, cond, ◌&&◌, List
 use Rattle.std.proofs.Math.Path.{refl, sym, ap}
 use Rattle.std.proofs.Common.{◌∙◌}
 use native.Mathlib.Omega.{arith}
+use Rattle.std.specs.Int.Signed.{lt_z}
 use Rattle.toolkit.specs.Writes.{Wrote, wrote_as}
 use Rattle.frame.specs.Sites.{Frame, around}
 use Rattle.method.specs.Gradients.{mosaic, exchanged}
@@ -18,10 +19,38 @@ use Rattle.records.specs.Stages.{ChromaStored}
 use Rattle.sums.specs.Sums.{column_sum_to, Sums, SumsRead}
 use Rattle.second_pass.specs.Picked.{picked, picked_entry}
 
+-- ---- the tests, as the code makes them
+
+-- FH is below both others, or not
+pub both_below : {a b : Bool} → a ≡ true → b ≡ true → (a && b) ≡ true
+both_below e f = rw (e, f)
+
+pub first_not : {a : Bool} (b : Bool) → a ≡ false → (a && b) ≡ false
+first_not b e = rw e
+
+pub second_not : (a : Bool) {b : Bool} → b ≡ false → (a && b) ≡ false
+second_not true e = e
+second_not false e = refl
+
+module _ {A : Type 0} (FH FV FD : ℤ) (x y z : A) where
+  pub picked_first : (lt_z FH FV && lt_z FH FD) ≡ true → x ≡ picked FH FV FD x y z
+  unfolding picked
+  picked_first e = rw e
+
+  pub picked_second : (lt_z FH FV && lt_z FH FD) ≡ false → (lt_z FV FH && lt_z FV FD) ≡ true → y ≡ picked FH FV FD x y z
+  unfolding picked
+  picked_second e f = rw (e, f)
+
+  pub picked_third : (lt_z FH FV && lt_z FH FD) ≡ false → (lt_z FV FH && lt_z FV FD) ≡ false → z ≡ picked FH FV FD x y z
+  unfolding picked
+  picked_third e f = rw (e, f)
+
 -- of numbers as they were read
 pub picked_read : {A : Type 0} {FH FV FD a b c : ℤ} {x y z d e f : A} → a ≡ FH → b ≡ FV → c ≡ FD → d ≡ x → e ≡ y → f ≡ z
     → picked a b c d e f ≡ picked FH FV FD x y z
 picked_read p q r s t u = rw (p, q, r, s, t, u)
+
+-- ---- what is picked
 
 -- by the least sum
 picked_is : {A : Type 0} (r : Direction → A) (a b c : ℕ)

@@ -1,5 +1,5 @@
 -- How the second pass resolves a weak site, and the entries of the map that it so leaves. Assumes nothing.
-use Rattle.std.specs.Prelude.{◌≡◌, refl, Bool, true, false, cond, ◌&&◌, List, ℕ, ◌+◌, ◌*◌, ◌/◌, ◌%◌, ◌<◌, eqb, ℤ, length, get_or, set}
+use Rattle.std.specs.Prelude.{◌≡◌, refl, Bool, true, false, cond, ◌&&◌, List, ℕ, ◌+◌, ◌*◌, ◌/◌, ◌%◌, ◌<◌, ltb, eqb, ℤ, length, get_or, set}
 use Rattle.std.proofs.Common.{◌∙◌}
 use native.Mathlib.Omega.{arith}
 use Rattle.std.specs.Int.Signed.{lt_z}
@@ -9,11 +9,22 @@ use Rattle.second_pass.specs.declared.Choice.{Choice}
 use Rattle.second_pass.specs.declared.Choice.TheVariants.{Across, Down, ToMean}
 use Rattle.second_pass.specs.Picked.{picked, map_entry}
 
--- what a choice takes is picked by the sums
-pub taken_picked : {A : Type 0} (FH FV FD : ℤ) {choice : Choice} (x y z : A) → choice ≡ picked FH FV FD Across Down ToMean
-    → one_of choice x y z ≡ picked FH FV FD x y z
+-- what is taken by a resolution, as its code in the map, is picked by the sums
+pub taken_picked : {A : Type 0} (FH FV FD : ℤ) {second : ℕ} (x y z : A) → second ≡ picked FH FV FD 4 5 6
+    → cond (ltb second 6) (cond (ltb second 5) x y) z ≡ picked FH FV FD x y z
 unfolding picked
 taken_picked FH FV FD x y z e = rw e (by_tests (lt_z FH FV && lt_z FH FD) (lt_z FV FH && lt_z FV FD))
+  where
+    by_tests : (t u : Bool) → cond (ltb (cond t 4 (cond u 5 6)) 6) (cond (ltb (cond t 4 (cond u 5 6)) 5) x y) z ≡ cond t x (cond u y z)
+    by_tests true u = refl
+    by_tests false true = refl
+    by_tests false false = refl
+
+-- so is what a choice takes
+pub choice_picked : {A : Type 0} (FH FV FD : ℤ) {choice : Choice} (x y z : A) → choice ≡ picked FH FV FD Across Down ToMean
+    → one_of choice x y z ≡ picked FH FV FD x y z
+unfolding picked
+choice_picked FH FV FD x y z e = rw e (by_tests (lt_z FH FV && lt_z FH FD) (lt_z FV FH && lt_z FV FD))
   where
     by_tests : (t u : Bool) → one_of (cond t Across (cond u Down ToMean)) x y z ≡ cond t x (cond u y z)
     by_tests true u = refl

@@ -14,6 +14,7 @@ ghost use Rattle.second_pass.specs.Picked.{picked, picked_entry, code_entry, map
 
 use frame::Shape;
 use half_rows::{Scratch, ThreeWays};
+use positions::Halves;
 use sums::TrialPlanes;
 
 // r_H, of which r_D is the mean with r_V.
@@ -132,7 +133,7 @@ fn second_row(
     at: usize,
     count: usize,
 )
-    requires count_bound { (count ≤ 2048) × (at + count ≤ length out.old) × (length out.old ≤ 67108864)
+    requires count_bound { (count ≤ 2048) × (at + count ≤ length out.old)
         × (SumsRoom 524160 count sums.now.across sums.now.vertical sums.now.diagonal) }
     requires map_len { length map.now ≡ length out.old }
     ensures wrote { Wrote (pos 0) at count (λ (k : ℕ). picked_entry trials.now.across trials.now.vertical trials.now.diagonal
@@ -165,7 +166,7 @@ fn column_code(code: u8, parity: usize, c: usize) -> u8
 // A row of the map, from entry at on: the codes at the columns c, c + 2, .. and 0 at the others. Not by `weave` of out_rows, which joins two
 // half rows with room on both sides: here there is one, with none.
 fn map_row(codes: &[u8; 2048], map: &mut [u8], at: usize, c: usize, w: usize)
-    requires { (c ≤ 1) × (2 ≤ w) × (w ≤ 4096) × (at + w ≤ length map.old) × (length map.old ≤ 16777216) }
+    requires { (w ≤ 4096) × (at + w ≤ length map.old) }
     ensures { Wrote 0 at w (map_entry c codes.now) map.old map.new }
 {
     for k in 0..w / 2 {
@@ -194,8 +195,7 @@ pub fn second_line(
         map.old map.new }
 {
     let w = shape.width;
-    let c = positions::first_chroma(shape.phase, i);
-    let count = positions::half_count(w, c);
+    let Halves { start, count, .. } = Halves::of(shape, i);
     let trials = &mut scratch.trials;
     let sums = &mut scratch.sums;
     let codes = &mut scratch.codes;
@@ -206,8 +206,8 @@ pub fn second_line(
         index: i,
         count,
     };
-    trial_rows(planes, c, trials);
+    trial_rows(planes, start, trials);
     sums::sum_row(planes, 3, trials, sums);
     second_row(trials, sums, map, out, codes, i * w, count);
-    map_row(codes, map, i * w, c, w);
+    map_row(codes, map, i * w, start, w);
 }

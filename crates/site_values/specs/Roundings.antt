@@ -40,3 +40,8 @@ fused_is d m u e = two_hundredth (pos 33 *ℤ d +ℤ pos 67 *ℤ m) u e
 
 pub quotient_most : (u : ℕ) → u ≤ 6553600 → (u + 100) / 200 ≤ 32768
 quotient_most u h = omega (arith, div-add-mod' (u + 100) 200)
+
+-- ---- the shares of two numbers that are lifted by 32,768
+pub shares_are : (d m : ℤ) (a b : ℕ) → pos a ≡ d +ℤ pos 32768 → pos b ≡ m +ℤ pos 32768
+    → pos (33 * a + 67 * b) ≡ pos 33 *ℤ d +ℤ pos 67 *ℤ m +ℤ pos 3276800
+shares_are d m a b = rw (as_difference d, as_difference m) (simp to_naturals (omega arith))

@@ -5,6 +5,7 @@ use Rattle.std.proofs.Common.{sym, ◌∙◌, ap, arith}
 use Rattle.toolkit.specs.Orders.{to_naturals}
 use Rattle.toolkit.specs.Entries.{Entries, entries_as}
 use Rattle.method.specs.Gradients.{exchanged, six_tap, six_tap_pair, eastbound, gradients, west_gradient}
+use Rattle.east_rows.specs.RowSums.{pair_of}
 use Rattle.east_rows.specs.SumLaws.{taps_most}
 use Rattle.south_rows.specs.SevenRows.{seven_rows, column_pair, down_pair, north_sum, north_at, SmallEntry, SmallRows}
 
@@ -60,6 +61,22 @@ column_small rows at k s = (
   where
     small : (p : ℕ) → p < 7 → SmallEntry rows (get_or at p 0 + k)
     small p h = s.each p k h (omega arith)
+
+-- each of them
+module _ (rows at : List ℕ) (k : ℕ) (s : SmallRows (k + 1) at rows) (p : ℕ) (h : p < 7) where
+  pub entry_inside : get_or at p 0 + k < 98688
+  entry_inside = (s.each p k h (omega arith)).0
+
+  pub entry_small : get_or rows (get_or at p 0 + k) 0 ≤ 4095
+  entry_small = (s.each p k h (omega arith)).1
+
+-- the pair, from the samples of a column as a list of their own
+pub listed_pair : (rows at y : List ℕ) (k : ℕ) → get_or y 0 0 ≡ get_or rows (get_or at 0 0 + k) 0 → get_or y 1 0 ≡ get_or rows (get_or at 1 0 + k) 0
+    → get_or y 2 0 ≡ get_or rows (get_or at 2 0 + k) 0 → get_or y 3 0 ≡ get_or rows (get_or at 3 0 + k) 0
+    → get_or y 4 0 ≡ get_or rows (get_or at 4 0 + k) 0 → get_or y 5 0 ≡ get_or rows (get_or at 5 0 + k) 0
+    → get_or y 6 0 ≡ get_or rows (get_or at 6 0 + k) 0 → pair_of y ≡ down_pair rows at k
+unfolding pair_of column_pair
+listed_pair rows at y k a b c d e f g = rw (a, b, c, d, e, f, g) (pair_is rows at k)
 
 pub small_less : {m n : ℕ} {at rows : List ℕ} → SmallRows n at rows → m ≤ n → SmallRows m at rows
 small_less s h = record { each = λ p k a b. s.each p k a (omega arith) }

@@ -1,79 +1,75 @@
-// The gradients down the columns: N of a row, from the seven local rows about the one two rows up.
+// The gradients down the columns: N of a row, from the seven loaded rows about the one above it.
 #![tactic(auto)]
 
-ghost use Rattle.std.specs.Prelude.{◌≡◌, ℕ, ◌+◌, ◌≤◌, pos, length};
+ghost use Rattle.std.specs.Prelude.{◌≡◌, ℕ, ◌+◌, ◌≤◌, pos, get_or};
 ghost use Rattle.toolkit.specs.Entries.{Entries};
 ghost use Rattle.south_rows.specs.SevenRows.{down_pair, north_sum};
 ghost use Rattle.south_rows.specs.SevenRows.{SmallRows, NorthReads, SouthLent, SouthStores};
 
-use east_rows::{bend, gradient, take_half};
+use east_rows::{gradient, pair, take_half};
 use frame::Shape;
+use mosaic_rows::SevenRows;
 use positions::half_count;
+use std::array;
 
-// The pair of s down the column of entry k of the rows that start at the entries of at.
-fn down(rows: &[u16; 98688], at: [usize; 7], k: usize) -> u16
-    requires { SmallRows (k + 1) at rows.now }
-    ensures { (result ≡ down_pair rows.now at k) × (result ≤ 32760) }
+// The pair of s down the column of entry k.
+#[tactic(auto, using(crate::specs::SevenRowLaws::listed_pair))]
+fn down(rows: SevenRows<'_>, k: usize) -> u16
+    requires { SmallRows (k + 1) rows.at rows.samples.now }
+    ensures { (result ≡ down_pair rows.entry.samples.now rows.entry.at k) × (result ≤ 32760) }
 {
-    let a = rows[at[0] + k];
-    let b = rows[at[1] + k];
-    let c = rows[at[2] + k];
-    let d = rows[at[3] + k];
-    let e = rows[at[4] + k];
-    let f = rows[at[5] + k];
-    let g = rows[at[6] + k];
-    bend(a, b, c, d, e, f) + bend(b, c, d, e, f, g)
+    pair(array::from_fn(|p| rows.samples[rows.at[p] + k]))
 }
 
-// The pairs of the columns −1 to w of the rows that start at the entries of at.
-fn down_row(rows: &[u16; 98688], at: [usize; 7], out: &mut [u16; 4112], w: usize)
+// The pairs of the columns −1 to w.
+fn down_row(rows: SevenRows<'_>, w: usize, pairs: &mut [u16; 4112])
     requires w_bound { w ≤ 4096 }
-    requires small_rows { SmallRows (w + 9) at rows.now }
-    ensures { Entries 0 4112 7 (w + 9) (down_pair rows.now at) out.new }
+    requires small_rows { SmallRows (w + 9) rows.at rows.samples.now }
+    ensures { Entries 0 4112 7 (w + 9) (down_pair rows.entry.samples.now rows.entry.at) pairs.new }
 {
     for k in 7..w + 9 {
-        out[k] = down(rows, at, k);
+        pairs[k] = down(rows, k);
     }
 }
 
-// N at the columns 0 to w − 1, from the pairs and the two rows that start at the entries here and there.
+// N at the columns 0 to w − 1, from the pairs and the rows that start at at[2] and at[4].
 #[tactic(auto, unfolding(crate::specs::SevenRows::north_sum))]
-fn north_row(
-    v: &[u16; 4112],
-    rows: &[u16; 98688],
-    here: usize,
-    there: usize,
-    w: usize,
-    gradients: &mut [i32; 4112],
-)
-    requires north_reads { NorthReads w here there rows.now v.now }
+fn north_row(rows: SevenRows<'_>, w: usize, pairs: &[u16; 4112], gradients: &mut [i32; 4112])
+    requires north_reads { NorthReads w (get_or rows.at 2 0) (get_or rows.at 4 0) rows.samples.now pairs.now }
     ensures { Entries (pos 0) 4112 8 (w + 8)
-        (λ (k : ℕ). pos (north_sum rows.now v.now here there k)) gradients.new }
+        (λ (k : ℕ). pos (north_sum rows.entry.samples.now pairs.now (get_or rows.entry.at 2 0) (get_or rows.entry.at 4 0) k))
+        gradients.new }
 {
+    let [_, _, here, _, there, ..] = rows.at;
+    let samples = rows.samples;
     for k in 8..w + 8 {
-        gradients[k] = gradient(rows[here + k], rows[there + k], v[k], v[k - 1], v[k + 1]);
+        gradients[k] = gradient(
+            samples[here + k],
+            samples[there + k],
+            pairs[k],
+            pairs[k - 1],
+            pairs[k + 1],
+        );
     }
 }
 
-// Seven rows start at the entries of at. Stores N of the row at at[4] in halves, of which the first starts at column c, from entry to on. It
-// is S of the row at at[2].
+// Stores N of the row at at[4] in halves, of which the first starts at column c, from entry to on. It is S of the row at at[2].
 pub fn south_line(
-    rows: &[u16; 98688],
-    at: [usize; 7],
+    rows: SevenRows<'_>,
     shape: Shape,
     c: usize,
-    v: &mut [u16; 4112],
+    pairs: &mut [u16; 4112],
     gradients: &mut [i32; 4112],
     out: &mut [i32],
     to: usize,
 )
-    requires { SouthLent shape c to at rows.now out.old }
-    ensures south_stores { SouthStores shape c to at rows.now out.old out.new }
+    requires { SouthLent shape c to rows.at rows.samples.now out.old }
+    ensures south_stores { SouthStores shape c to rows.entry.at rows.entry.samples.now out.old out.new }
 {
     let w = shape.width;
     let count = half_count(w, c);
-    down_row(rows, at, v, w);
-    north_row(v, rows, at[2], at[4], w, gradients);
+    down_row(rows, w, pairs);
+    north_row(rows, w, pairs, gradients);
     take_half(gradients, c + 8, count, out, to);
     take_half(gradients, 9 - c, w - count, out, to + count);
 }

@@ -21,8 +21,8 @@ pub struct Turn {
 }
 
 impl Turn {
-    // The row that lies so many rows behind row t, where that is one of the frame's.
-    fn row_behind(self, behind: usize) -> Option<usize>
+    // The index of the row that lies so many rows behind row t, where that is one of the frame's.
+    fn index_behind(self, behind: usize) -> Option<usize>
         ensures { MatchOption result ((self.t < behind) ⊎ (self.shape.height + behind ≤ self.t))
             (λ i. (behind ≤ self.t) × (i ≡ self.t - behind) × (i < self.shape.height)) }
     {
@@ -31,6 +31,22 @@ impl Turn {
         }
         let i = self.t - behind;
         if i < self.shape.height { Some(i) } else { None }
+    }
+
+    // That row.
+    fn row_behind(self, behind: usize) -> Option<Row>
+        requires { (self.shape.width ≤ 4096) × (self.shape.height ≤ 4096) × (Round self.base (self.t - behind) (self.t - behind)) }
+        ensures { MatchOption result ((self.t < behind) ⊎ (self.shape.height + behind ≤ self.t))
+            (λ row. (behind ≤ self.t) × (row.index ≡ self.t - behind) × (row.index < self.shape.height)
+            × (row.shape ≡ self.shape) × (row.base ≡ self.base)) }
+    {
+        let index = self.index_behind(behind)?;
+        let row = Row {
+            shape: self.shape,
+            index,
+            base: self.base,
+        };
+        Some(row)
     }
 }
 
@@ -41,12 +57,7 @@ pub fn load_turn(mosaic: &[u16], turn: Turn, loaded: &mut LoadedRows)
     ensures { LoadTurned (frame turn.shape mosaic.now) turn.t loaded.old.samples loaded.new.samples loaded.old.alongs
         loaded.new.alongs }
 {
-    if turn.t < turn.shape.height {
-        let row = Row {
-            shape: turn.shape,
-            index: turn.t,
-            base: turn.base,
-        };
+    if let Some(row) = turn.row_behind(0) {
         first_stage::load_line(mosaic, row, loaded);
     }
 }
@@ -56,7 +67,7 @@ pub fn first_turn(
     loaded: &LoadedRows,
     turn: Turn,
     scratch: &mut Scratch,
-    tops: &mut [i32],
+    tops: &mut [i32; 8224],
     work: &mut [i32],
     red: &mut [i32],
     blue: &mut [i32],
@@ -69,12 +80,7 @@ pub fn first_turn(
         work.old work.new
         red.old red.new blue.old blue.new map.old map.new }
 {
-    if let Some(i) = turn.row_behind(4) {
-        let row = Row {
-            shape: turn.shape,
-            index: i,
-            base: turn.base,
-        };
+    if let Some(row) = turn.row_behind(4) {
         first_stage::first_line(loaded, row, scratch, tops, work, red, blue, map);
     }
 }
@@ -93,14 +99,14 @@ pub fn second_turn(
     ensures second_turned { SecondTurned turn.shape turn.t red.now blue.now green.old green.new
         map.old map.new }
 {
-    if let Some(i) = turn.row_behind(12) {
+    if let Some(i) = turn.index_behind(12) {
         second_pass::second_line(red, blue, turn.shape, i, scratch, green, map);
     }
 }
 
 // The final differences of row t − 14.
 pub fn enhance_turn(
-    tops: &[i32],
+    tops: &[i32; 8224],
     turn: Turn,
     work: &mut [i32],
     green: &[i32],
@@ -109,27 +115,17 @@ pub fn enhance_turn(
     requires some_samples { SomeSamples (λ (zs : List ℕ). EnhanceAsks (frame turn.shape zs) turn.t turn.base tops.now work.old green.now) }
     ensures enhance_turned { EnhanceTurned turn.shape turn.t turn.base tops.now green.now work.old work.new }
 {
-    if let Some(i) = turn.row_behind(14) {
-        let row = Row {
-            shape: turn.shape,
-            index: i,
-            base: turn.base,
-        };
+    if let Some(row) = turn.row_behind(14) {
         differences::enhance_line(tops, row, work, green, scratch);
     }
 }
 
 // The differences of the other colour of row t − 15.
-pub fn diagonal_turn(tops: &[i32], turn: Turn, work: &mut [i32], scratch: &mut Scratch)
+pub fn diagonal_turn(tops: &[i32; 8224], turn: Turn, work: &mut [i32], scratch: &mut Scratch)
     requires some_samples { SomeSamples (λ (zs : List ℕ). DiagonalAsks (frame turn.shape zs) turn.t turn.base tops.now work.old) }
     ensures diagonal_turned { DiagonalTurned turn.shape turn.t turn.base tops.now work.old work.new }
 {
-    if let Some(i) = turn.row_behind(15) {
-        let row = Row {
-            shape: turn.shape,
-            index: i,
-            base: turn.base,
-        };
+    if let Some(row) = turn.row_behind(15) {
         differences::diagonal_line(tops, row, work, scratch);
     }
 }
@@ -137,7 +133,7 @@ pub fn diagonal_turn(tops: &[i32], turn: Turn, work: &mut [i32], scratch: &mut S
 // The three numbers of row t − 20, at a black level.
 pub fn out_turn(
     samples: &[u16; 98688],
-    tops: &[i32],
+    tops: &[i32; 8224],
     turn: Turn,
     black: u8,
     work: &[i32],
@@ -156,12 +152,7 @@ pub fn out_turn(
     ensures out_turned_3 { OutTurned turn.shape black turn.t turn.base Colour.blue samples.now tops.now work.now blue.old
         blue.new }
 {
-    if let Some(i) = turn.row_behind(20) {
-        let row = Row {
-            shape: turn.shape,
-            index: i,
-            base: turn.base,
-        };
+    if let Some(row) = turn.row_behind(20) {
         out_stage::out_line(samples, tops, row, black, work, scratch, red, green, blue);
     }
 }

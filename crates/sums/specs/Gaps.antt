@@ -1,9 +1,18 @@
--- The size of |x − y|, and sums of two. Assumes nothing.
-use Rattle.std.specs.Prelude.{◌≡◌, ◌≤◌, ℤ, pos, nat_abs, ◌+ℤ◌}
+-- |x − y|, by which of both is the lesser, and its size; sums of two. Assumes nothing.
+use Rattle.std.specs.Prelude.{◌≡◌, true, false, ◌≤◌, ℤ, pos, nat_abs, ◌+ℤ◌, ◌-ℤ◌}
 use Rattle.std.proofs.Common.{arith}
+use Rattle.std.specs.Int.Signed.{lt_z}
 use Rattle.toolkit.specs.Differences.{as_difference}
 use Rattle.toolkit.specs.Orders.{to_naturals}
 use Rattle.method.specs.Gradients.{apart}
+
+pub gap_below : (x y : ℤ) → lt_z x y ≡ true → y -ℤ x ≡ pos (apart x y)
+unfolding apart
+gap_below x y = rw (as_difference x, as_difference y) (simp to_naturals (omega arith))
+
+pub gap_above : (x y : ℤ) → lt_z x y ≡ false → x -ℤ y ≡ pos (apart x y)
+unfolding apart
+gap_above x y = rw (as_difference x, as_difference y) (simp to_naturals (omega arith))
 
 pub apart_most : (x y : ℤ) → nat_abs x ≤ 32760 → nat_abs y ≤ 32760 → apart x y ≤ 65520
 unfolding apart

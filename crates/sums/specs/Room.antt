@@ -88,6 +88,13 @@ module _ {f : Frame} {i count : ℕ} {diagonals verticals rh rv rd : List ℤ} (
         let r = rows_asked k row plane sums above below (middle (chroma_count f i) h) held size a b s in
         ((few, r.0.0, r.0.1, r.0.2, r.0.3), (c.1.0, r.1.1, r.1.2, s))
 
+    -- the sums of both kinds, after those along the row
+    pub columns_room : {m : ℕ} {fh fv fd sums : List ℤ} → SumsRoom m count fh fv fd → m ≤ 458752
+        → Entries (pos 0) 2064 4 (count + 4) (with_columns rd t (entries_of fd)) sums → Sized 1048576 4 (count + 4) sums
+    columns_room {fd = fd} room l new =
+        let d = columns_asked diagonal rd fd read.both_row room.both_most in
+        entries_sized new (λ x a b. omega (arith, columns_most t count (entries_of fd) few d.1.0 x a b (room.both_most.each x a b)))
+
     pub room_next : (above below : ℕ) (fh fv fd new_fh new_fv new_fd : List ℤ)
         → (above ≡ reflect f.height (sub_ℕ i (2 * t))) × (above < f.height)
         → (below ≡ reflect f.height (pos (i + 2 * t))) × (below < f.height) → 1 ≤ t → SumsRoom ((t - 1) * 131040) count fh fv fd

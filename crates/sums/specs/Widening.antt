@@ -19,6 +19,13 @@ pub record Stepped (t up down count : ℕ) (diagonals verticals rh rv rd fh fv f
   pub down_columns : Entries (pos 0) 2064 4 (count + 4) (with_rows rv verticals up down (entries_of fv)) new_fv
   pub both : Entries (pos 0) 2064 4 (count + 4) (with_both rd t diagonals up down (entries_of fd)) new_fd
 
+-- the distances down the column, added to sums that have those along the row
+pub both_added : {hi : ℕ} (row : List ℤ) (t : ℕ) (plane : List ℤ) (up down : ℕ) (old : ℕ → ℤ) {sums new : List ℤ}
+    → Entries (pos 0) 2064 4 hi (with_columns row t old) sums → Entries (pos 0) 2064 4 hi (with_rows row plane up down (entries_of sums)) new
+    → Entries (pos 0) 2064 4 hi (with_both row t plane up down old) new
+unfolding with_rows
+both_added row t plane up down old c r = entries_as r (omega arith) (omega arith) (λ x l h. rw (c.at x l h) refl)
+
 none_beside : (n : ℕ) → n ≡ n + 0
 none_beside n = omega arith
 

@@ -8,7 +8,7 @@ ghost use Rattle.method.specs.Gradients.{apart};
 ghost use Rattle.positions.specs.HalfRows.{chroma_start, half_count};
 ghost use Rattle.positions.specs.Taken.{SomeSamples};
 ghost use Rattle.half_rows.specs.Sources.{Sized};
-ghost use Rattle.sums.specs.Sums.{entries_of, with_columns, with_rows, with_both, SumsRead, Widens, Summed, SumsRoom};
+ghost use Rattle.sums.specs.Sums.{entries_of, with_columns, with_rows, SumsRead, Widens, Summed, SumsRoom};
 
 use frame::Shape;
 use half_rows::ThreeWays;
@@ -60,8 +60,7 @@ fn add_rows(
     sums: &mut [i32; 2064],
     count: usize,
 )
-    requires count_in_bounds { (up + count ≤ length plane.now) × (down + count ≤ length plane.now)
-        × (length plane.now ≤ 67108864) × (count ≤ 2048) }
+    requires count_in_bounds { (up + count ≤ length plane.now) × (down + count ≤ length plane.now) × (count ≤ 2048) }
     requires sized { (Sized 32760 4 (count + 4) row.now) × (Sized 32760 up (up + count) plane.now)
         × (Sized 32760 down (down + count) plane.now) × (Sized 1048576 4 (count + 4) sums.old) }
     ensures { Entries (pos 0) 2064 4 (count + 4)
@@ -69,32 +68,6 @@ fn add_rows(
 {
     for k in 0..count {
         sums[k + 4] = add_gaps(sums[k + 4], row[k + 4], plane[up + k], plane[down + k]);
-    }
-}
-
-// Adds the distances of both kinds: to the entries t before and t behind, and to the rows of the plane that start at up and at down.
-// One pass over the sums: `add_columns` and then `add_rows` were tried, and take a sixth longer where the rows lie in the cache, as in a sweep.
-// The sums leave room for the first two distances: 917536 + 2 * 65520 = 1048576.
-fn add_both(
-    row: &[i32; 2064],
-    t: usize,
-    plane: &[i32],
-    up: usize,
-    down: usize,
-    sums: &mut [i32; 2064],
-    count: usize,
-)
-    requires t_bound { (t ≤ 4) × (up + count ≤ length plane.now) × (down + count ≤ length plane.now)
-        × (length plane.now ≤ 67108864) × (count ≤ 2048) }
-    requires sized { (Sized 32760 0 (count + 8) row.now) × (Sized 32760 up (up + count) plane.now)
-        × (Sized 32760 down (down + count) plane.now) × (Sized 917536 4 (count + 4) sums.old) }
-    ensures { Entries (pos 0) 2064 4 (count + 4)
-        (with_both row.now t plane.now up down (entries_of sums.old)) sums.new }
-{
-    for k in 0..count {
-        let x = row[k + 4];
-        let columns = add_gaps(sums[k + 4], x, row[k + 4 - t], row[k + 4 + t]);
-        sums[k + 4] = add_gaps(columns, x, plane[up + k], plane[down + k]);
     }
 }
 
@@ -121,7 +94,8 @@ fn add_step(planes: TrialPlanes<'_>, t: usize, trials: &ThreeWays, sums: &mut Th
     let diagonal = &mut sums.diagonal;
     add_columns(&trials.across, t, across, count);
     add_rows(&trials.vertical, verticals, up, down, vertical, count);
-    add_both(&trials.diagonal, t, diagonals, up, down, diagonal, count);
+    add_columns(&trials.diagonal, t, diagonal, count);
+    add_rows(&trials.diagonal, diagonals, up, down, diagonal, count);
 }
 
 // All steps, from 1 to reach.
@@ -138,7 +112,8 @@ fn add_steps(planes: TrialPlanes<'_>, reach: usize, trials: &ThreeWays, sums: &m
     }
 }
 
-// The three sums of the red and blue sites of row i: FH and FV are twice the first two.
+// The three sums of the red and blue sites of row i: FH and FV are twice the first two. The planes and what is tried stay two parameters: a
+// struct of both, with the fact of the clause, would be made for this one call.
 pub fn sum_row(planes: TrialPlanes<'_>, reach: usize, trials: &ThreeWays, sums: &mut ThreeWays)
     requires some_samples { SomeSamples (λ (zs : List ℕ). SumsRead (frame planes.shape zs) planes.index planes.diagonals.now planes.verticals.now trials.now.across trials.now.vertical trials.now.diagonal) }
     requires reach_bound { reach ≤ 4 }

@@ -22,7 +22,7 @@ fn step(
     black: u8,
     loaded: &mut LoadedRows,
     scratch: &mut Scratch,
-    tops: &mut [i32],
+    tops: &mut [i32; 8224],
     work: &mut [i32],
     red: &mut [i32],
     green: &mut [i32],
@@ -61,7 +61,7 @@ fn steps(
     black: u8,
     loaded: &mut LoadedRows,
     scratch: &mut Scratch,
-    tops: &mut [i32],
+    tops: &mut [i32; 8224],
     work: &mut [i32],
     red: &mut [i32],
     green: &mut [i32],
@@ -77,11 +77,7 @@ fn steps(
 {
     let mut base = 0;
     for t in 0..shape.height + 20 {
-        let turn = Turn {
-            shape: shape,
-            t: t,
-            base: base,
-        };
+        let turn = Turn { shape, t, base };
         step(
             mosaic, turn, black, loaded, scratch, tops, work, red, green, blue, map,
         );

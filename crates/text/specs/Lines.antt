@@ -2,9 +2,7 @@
 use Rattle.std.specs.Prelude.{◌≡◌, refl, List, [], ◌∷◌, ◌++◌, ℕ, zero, suc, ◌+◌, ◌<◌, ◌≤◌, length, get_or, drop}
 use Rattle.std.proofs.Common.{ap, arith, add-one, append_assoc, length-append}
 use Rattle.std.proofs.Math.Seq.{drop-cons, drop-length}
-use Rattle.frame.specs.declared.Refusal.{Refusal}
-use Rattle.frame.specs.Calls.{number_and_place}
-use Rattle.printing.specs.Printing.{decimal, numbers_line, refused_word, refusal_text}
+use Rattle.printing.specs.Printing.{decimal, numbers_line}
 use Rattle.text.specs.Digits.{tens, length_decimal}
 
 -- what stands behind a number: the other numbers with a space before each, and the end of the line
@@ -89,8 +87,3 @@ pub refusal_line_short : (n p : ℕ) → n < 18446744073709551616 → p < 184467
 unfolding numbers_line
 refusal_line_short n p hn hp =
     simp length-append (omega (arith, digits_64 n hn, digits_64 p hp))
-
-pub refusal_pieces : (why : Refusal) (n p : ℕ) → n ≡ (number_and_place why).number → p ≡ (number_and_place why).place
-    → (114 ∷ 101 ∷ 102 ∷ 117 ∷ 115 ∷ 101 ∷ 100 ∷ 32 ∷ []) ++ numbers_line (n ∷ p ∷ []) ≡ refusal_text why
-unfolding refusal_text refused_word
-refusal_pieces why n p e f = rw (e, f)

@@ -16,7 +16,7 @@ pub type Text = ArrayString<ROOM>;
 
 // A number in decimal digits.
 #[tactic(auto, using(crate::specs::Digits::decimal_printed))]
-fn number<const CAP: usize>(text: &mut ArrayString<CAP>, n: usize)
+pub fn number<const CAP: usize>(text: &mut ArrayString<CAP>, n: usize)
     requires { length text.old.bytes + length (decimal n) ≤ CAP }
     ensures { text.new.bytes ≡ text.old.bytes ++ decimal n }
 {
@@ -53,6 +53,7 @@ pub fn site_line<const CAP: usize>(
 }
 
 // The text of a refusal: the word, number and place.
+#[tactic(auto, using(crate::specs::Lines::refusal_line_short), unfolding(printing::specs::Printing::refused_word, printing::specs::Printing::refusal_text))]
 pub fn refusal(why: Refusal) -> Text
     ensures { result.bytes ≡ refusal_text why }
 {

@@ -7,8 +7,10 @@ use Rattle.first_pass.proofs.line_row.Goals as goal
 
 pub line-requires : goal.line-requires
 line-requires c =
-    let a = c.args in
-    across_reads (a.c + 2 * a.count + 9) (a.c + 2 * c.loop-k.k + 8) a.at a.rows.now c.requires.small_rows (omega arith) (omega arith)
+    let rows = c.args.rows in
+    let halves = c.args.halves in
+    across_reads (halves.start + 2 * halves.count + 9) (halves.start + 2 * c.loop-k.k + 8) rows.at rows.samples.now
+    c.requires.small_rows (omega arith) (omega arith)
 
 pub loop-k-preserved : goal.loop-k-preserved
 loop-k-preserved c =

@@ -7,5 +7,5 @@ use Rattle.first_pass.proofs.line_row.Given as goal
 
 abbrev pub invariant-loop-k : goal.invariant-loop-k
 invariant-loop-k l =
-    Entries (pos 0) 2064 4 (l.k + 4) (λ (x : ℕ). across_difference l.fn.at l.rows (l.c + 2 * (x - 4) + 8)) l.a
-    × Entries (pos 0) 2064 4 (l.k + 4) (λ (x : ℕ). down_difference l.fn.at l.rows (l.c + 2 * (x - 4) + 8)) l.b
+    Entries (pos 0) 2064 4 (l.k + 4) (λ (x : ℕ). across_difference l.fn.rows.at l.samples (l.halves.start + 2 * (x - 4) + 8)) l.a
+    × Entries (pos 0) 2064 4 (l.k + 4) (λ (x : ℕ). down_difference l.fn.rows.at l.samples (l.halves.start + 2 * (x - 4) + 8)) l.b

@@ -7,24 +7,24 @@ use Rattle.first_stage.proofs.gradient_line.Goals as goal
 
 pub south_line-requires : goal.south_line-requires
 south_line-requires c =
-    let args = c.args in
+    let row = c.args.row in
     let some = c.requires.some_samples in
     let reads = some.holds in
     record {
       samples = some.samples;
-      row = args.row.index + 2;
-      reads = reads_two_down args.row.index reads.taken c.requires.c_value.0 reads.seven;
-      room = south_room (frame args.row.shape some.samples) args.row.index _ reads.taken reads.inside c.requires.c_value.1
+      row = row.index + 2;
+      reads = reads_two_down row.index reads.taken c.first_chroma.ensures.0 reads.seven;
+      room = south_room (frame row.shape some.samples) row.index _ reads.taken reads.inside c.requires.work_len
           (c.east_line.ensures.east_stores.row some.samples reads) c.south_at.ensures;
     }
 
 pub returns : goal.returns
 returns c =
-    let args = c.args in
+    let row = c.args.row in
     let south = c.south_line.ensures in record {
       gradients_formed = record {
-        row = λ zs reads. gradients_stored (frame args.row.shape zs) args.row.index _ (c.east_line.ensures.east_stores.row zs reads)
-            (south.south_stores.row zs (args.row.index + 2) (reads_two_down args.row.index reads.taken c.requires.c_value.0 reads.seven))
+        row = λ zs reads. gradients_stored (frame row.shape zs) row.index _ (c.east_line.ensures.east_stores.row zs reads)
+            (south.south_stores.row zs (row.index + 2) (reads_two_down row.index reads.taken c.first_chroma.ensures.0 reads.seven))
             c.south_at.ensures;
       };
     }

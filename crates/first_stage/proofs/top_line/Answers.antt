@@ -4,13 +4,8 @@ use Rattle.mosaic_rows.specs.RingRowLaws.{near_rows}
 use Rattle.first_stage.specs.RingReads.{top_reads}
 use Rattle.first_stage.proofs.top_line.Goals as goal
 
-pub seven_rows-at-requires : goal.seven_rows-at-requires
-seven_rows-at-requires c =
-    let lent = c.requires.some_samples.holds in
-    record {
-      le_h = (lent.taken.tall, lent.taken.low, omega (arith, lent.inside, lent.taken.low));
-      near_rows = near_rows lent _ (omega arith) (omega arith);
-    }
+pub seven_rows-requires-clause-near_rows : goal.seven_rows-requires-clause-near_rows
+seven_rows-requires-clause-near_rows c = near_rows c.requires.some_samples.holds _ (omega arith) (omega arith)
 
 pub south_line-requires : goal.south_line-requires
 south_line-requires c =
@@ -18,8 +13,8 @@ south_line-requires c =
     record {
       samples = some.samples;
       row = c.args.row.index;
-      reads = top_reads some.holds c.requires.c_value c.seven_rows-at.ensures;
-      room = omega (arith, c.requires.tops_len, some.holds.taken.narrow, c.if-i-lt2.true);
+      reads = top_reads some.holds c.first_chroma.ensures.0 c.seven_rows.ensures;
+      room = omega (arith, some.holds.taken.narrow, c.if-i-lt2.true);
     }
 
 pub returns-then-i-lt2 : goal.returns-then-i-lt2
@@ -27,7 +22,7 @@ returns-then-i-lt2 c =
     let stored = c.south_line.ensures in record {
       tops_formed = record {
         row = λ zs lent. record {
-          here = λ h. stored.south_stores.row zs c.args.row.index (top_reads lent c.requires.c_value c.seven_rows-at.ensures);
+          here = λ h. stored.south_stores.row zs c.args.row.index (top_reads lent c.first_chroma.ensures.0 c.seven_rows.ensures);
           late = λ h. absurd (omega (arith, c.if-i-lt2.true));
         };
       };

@@ -13,10 +13,13 @@ use Rattle.half_rows.proofs.north.Goals as goal
 pub copy-requires-else-i-lt2 : goal.copy-requires-else-i-lt2
 copy-requires-else-i-lt2 c =
     let room = c.requires in
-    (omega (arith, c.south_at.ensures, south_inside _ _ _ _ _ _ _ room c.if-i-lt2.false), room.work_most, room.few)
+    let place = rw (c.at.ensures.shape, c.at.ensures.index) at c.south_at.ensures in
+    (omega (arith, place, south_inside _ _ _ _ _ _ _ room c.if-i-lt2.false), room.few)
 
 pub overflow_add-south_at : goal.overflow_add-south_at
-overflow_add-south_at c = omega (arith, c.south_at.ensures, south_inside _ _ _ _ _ _ _ c.requires c.if-i-lt2.false)
+overflow_add-south_at c =
+    let place = rw (c.at.ensures.shape, c.at.ensures.index) at c.south_at.ensures in
+    omega (arith, place, south_inside _ _ _ _ _ _ _ c.requires c.if-i-lt2.false)
 
 pub returns-then-i-lt2 : goal.returns-then-i-lt2
 returns-then-i-lt2 c =
@@ -29,8 +32,9 @@ returns-then-i-lt2 c =
 pub returns-else-i-lt2 : goal.returns-else-i-lt2
 returns-else-i-lt2 c =
     let a = c.args in
+    let place = rw (c.at.ensures.shape, c.at.ensures.index) at c.south_at.ensures in
     entries_as c.copy-else-i-lt2.ensures (omega arith) (omega arith) (λ x l h.
     let e : c.south_at.result + a.at + (x - 4) ≡ place_in_ring (a.row.index - 2) * record_size a.row.shape.width + south_part a.row.shape.width + (a.at + (x - 4)) =
-    omega (arith, c.south_at.ensures) in
+    omega (arith, place) in
     ap (λ (k : ℕ). get_or a.work.now k (pos 0)) e
     ∙ sym (north_of_work a.tops.now a.work.now a.row.shape.width a.row.index (a.at + (x - 4)) c.if-i-lt2.false))

@@ -2,8 +2,6 @@
 use mathlib.Core.Path.{◌≡◌, ◌∙◌}
 use mathlib.Core.List.{[], ◌∷◌}
 use mir.Facts.{to_z-of_z}
-use Rattle.toolkit.specs.Bounds.{val}
-use Rattle.toolkit.specs.BoundRules.{vals}
 use Rattle.method.specs.Four.{same_four}
 use Rattle.means.specs.Lifts.{lifted_mean_fits}
 use Rattle.out_rows.proofs.direct_mean.Goals as goal
@@ -15,6 +13,3 @@ values_are c =
 
 pub lifted_mean-requires : goal.lifted_mean-requires
 lifted_mean-requires c = let p = c.requires in rw (values_are c) (lifted_mean_fits 4096 40920 p.at_most p.naturals tt)
-
-pub returns : goal.returns
-returns c = let h = c.lifted_mean.ensures.1 in val (search vals depth 10) tt ∙ (rw (values_are c.before) at c.lifted_mean.ensures.0)

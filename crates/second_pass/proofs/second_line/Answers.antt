@@ -12,14 +12,14 @@ use Rattle.second_pass.specs.MapRows.{map_stored}
 use Rattle.second_pass.proofs.second_line.Goals as goal
 
 pub invariant_of-planes : goal.invariant_of-planes
-invariant_of-planes c = record { sites = c.half_count-count.ensures.0 ∙ ap (half_count c.args.shape.width) c.first_chroma-c.ensures.0 }
+invariant_of-planes c = record { sites = c.of-start.ensures.count.0 ∙ ap (half_count c.args.shape.width) c.of-start.ensures.start.0 }
 
 pub second_row-requires-clause-count_bound : goal.second_row-requires-clause-count_bound
 second_row-requires-clause-count_bound c =
     let p = row_here (frame c.args.shape c.requires.some_samples.samples) _ _ _ _ _ c.requires.some_samples.holds.planes
-    c.first_chroma-c.ensures.0 c.half_count-count.ensures.0 in
+    c.of-start.ensures.start.0 c.of-start.ensures.count.0 in
     let e = c.requires.out_len in
-    (c.half_count-count.ensures.2, omega (arith, p, e), omega (arith, p, e), c.sum_row.ensures.sums_room)
+    (c.of-start.ensures.count.2, omega (arith, p, e), c.sum_row.ensures.sums_room)
 
 pub returns : goal.returns
 returns c =
@@ -31,11 +31,11 @@ returns c =
         row = λ zs lent.
             let formed = rows.rows zs lent.planes in
             let summed = sums.summed.row zs formed in
-            let count = count_is a.shape a.i _ (c.half_count-count.ensures.0 ∙ ap (half_count c.args.shape.width) c.first_chroma-c.ensures.0) zs in
+            let count = count_is a.shape a.i _ (c.of-start.ensures.count.0 ∙ ap (half_count c.args.shape.width) c.of-start.ensures.start.0) zs in
             record {
               differences_stored = line_stored (frame a.shape zs) a.i _ _ _ _ _ _ _ _ formed summed _ _ _ count second.wrote;
               map_stored = map_stored (frame a.shape zs) a.i _ _ _ _ _ _ _ lent summed
-                  (entries_as second.entries (omega arith) (omega (arith, count)) (λ k x y. refl)) _ c.first_chroma-c.ensures.0
+                  (entries_as second.entries (omega arith) (omega (arith, count)) (λ k x y. refl)) _ c.of-start.ensures.start.0
                   c.map_row.ensures;
             };
       };

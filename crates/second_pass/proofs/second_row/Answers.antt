@@ -18,8 +18,8 @@ use Rattle.second_pass.proofs.second_row.Goals as goal
 pub loop-k-preserved : goal.loop-k-preserved
 unfolding picked_entry code_entry
 loop-k-preserved c =
-    let h = c.requires.count_bound.3.across_most.each (c.loop-k.k + 4) (omega arith) (omega arith) in
-    let v = c.requires.count_bound.3.down_most.each (c.loop-k.k + 4) (omega arith) (omega arith) in
+    let h = c.requires.count_bound.2.across_most.each (c.loop-k.k + 4) (omega arith) (omega arith) in
+    let v = c.requires.count_bound.2.down_most.each (c.loop-k.k + 4) (omega arith) (omega arith) in
     let a = c.args in
     let first = get_or a.map.now (a.at + c.loop-k.k) 0 in (
       wrote_next c.loop-k.invariant.0 (omega arith)

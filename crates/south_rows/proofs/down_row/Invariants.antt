@@ -4,4 +4,4 @@ use Rattle.south_rows.specs.SevenRows.{down_pair}
 use Rattle.south_rows.proofs.down_row.Given as goal
 
 abbrev pub invariant-loop-k : goal.invariant-loop-k
-invariant-loop-k l = Entries 0 4112 7 l.k (down_pair l.rows l.at) l.out
+invariant-loop-k l = Entries 0 4112 7 l.k (down_pair l.rows.samples.now l.rows.at) l.pairs

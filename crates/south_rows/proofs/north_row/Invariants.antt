@@ -6,4 +6,4 @@ use Rattle.south_rows.specs.SevenRows.{north_sum}
 use Rattle.south_rows.proofs.north_row.Given as goal
 
 abbrev pub invariant-loop-k : goal.invariant-loop-k
-invariant-loop-k l = Entries (pos 0) 4112 8 l.k (λ (x : ℕ). pos (north_sum l.rows l.v l.here l.there x)) l.gradients
+invariant-loop-k l = Entries (pos 0) 4112 8 l.k (λ (x : ℕ). pos (north_sum l.samples l.pairs l.here l.there x)) l.gradients

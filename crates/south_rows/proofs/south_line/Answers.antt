@@ -37,12 +37,13 @@ take_half-requires-2 c =
 pub returns : goal.returns
 returns c =
     let a = c.args in
+    let samples = a.rows.samples.now in
     let pairs = c.down_row.ensures in
     let first = c.take_half.ensures in record {
       south_stores = record {
         row = λ zs x reads.
-            halves_stored (frame a.shape zs) x a.c a.at a.rows.now reads _
-            (north_formed a.shape.width a.rows.now a.at _ pairs c.north_row.ensures) (c.half_count-count.ensures.0) first
+            halves_stored (frame a.shape zs) x a.c a.rows.at samples reads _
+            (north_formed a.shape.width samples a.rows.at _ pairs c.north_row.ensures) (c.half_count-count.ensures.0) first
             c.take_half-2.ensures;
       };
     }

@@ -1,10 +1,9 @@
 -- `stage_turns::diagonal_turn` meets its contract: the row that is due. Assumes nothing.
-use Rattle.std.proofs.Common.{arith, ◌≡◌, ◌-◌}
+use Rattle.std.proofs.Common.{arith}
 use Rattle.stage_turns.specs.Turned.{diagonal_turned}
 use Rattle.stage_turns.proofs.diagonal_turn.Goals as goal
 
 pub returns-in-Some : goal.returns-in-Some
 returns-in-Some c =
     let due = c.in-Some.ensures in
-    let here : c.in-Some.i ≡ c.args.turn.t - 15 = due.1 in
-    record { diagonal_turned = diagonal_turned due.0 (omega (arith, due)) (rw here at c.diagonal_line.ensures.diagonal_stores) }
+    record { diagonal_turned = diagonal_turned due.0 (omega (arith, due)) (rw (due.1, due.3, due.4) at c.diagonal_line.ensures.diagonal_stores) }

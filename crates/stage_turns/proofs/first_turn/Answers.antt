@@ -1,10 +1,9 @@
 -- `stage_turns::first_turn` meets its contract: the row that is due. Assumes nothing.
-use Rattle.std.proofs.Common.{arith, ◌≡◌, ◌-◌}
+use Rattle.std.proofs.Common.{arith}
 use Rattle.stage_turns.specs.Turned.{first_turned}
 use Rattle.stage_turns.proofs.first_turn.Goals as goal
 
 pub returns-in-Some : goal.returns-in-Some
 returns-in-Some c =
     let due = c.in-Some.ensures in
-    let here : c.in-Some.i ≡ c.args.turn.t - 4 = due.1 in
-    record { first_turned = first_turned due.0 (omega (arith, due)) (rw here at c.first_line.ensures.first_stores) }
+    record { first_turned = first_turned due.0 (omega (arith, due)) (rw (due.1, due.3, due.4) at c.first_line.ensures.first_stores) }

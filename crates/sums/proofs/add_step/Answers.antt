@@ -3,8 +3,9 @@ use mathlib.Core.Path.{refl}
 use Prim.Native.Nat.{◌*◌}
 use native.Mathlib.Omega.{arith}
 use Rattle.method.specs.Green.{horizontal, vertical, diagonal}
-use Rattle.sums.specs.Widening.{Stepped, count_is, widens}
-use Rattle.sums.specs.Room.{columns_asked, rows_asked, both_asked, before, room_next}
+use Rattle.sums.specs.Widening.{Stepped, both_added, count_is, widens}
+use Rattle.sums.specs.Room.{columns_asked, rows_asked, columns_room, before, room_next}
+use Rattle.sums.specs.Steps.{middle}
 use Rattle.sums.proofs.add_step.Goals as goal
 
 pub add_columns-requires : goal.add_columns-requires
@@ -18,15 +19,20 @@ add_rows-requires c =
     let r = c.requires.some_samples.holds in
     let m = c.requires.sums_room in
     let whole = rows_asked r (count_is c.args.planes.shape c.args.planes.index c.args.planes.count c.args.planes.sites c.requires.some_samples.samples) c.requires.t_bound.1 vertical _ _ _ _ _ r.down_row r.planes.verticals_held r.planes.verticals_size
-    c.row_above.ensures.value c.row_below.ensures.value (before m.down_most (omega arith)) in record { count_in_bounds = whole.0; sized = whole.1 }
+    c.row_above.ensures.value c.row_below.ensures.value (before m.down_most (omega arith)) in record { count_in_bounds = (whole.0.0, whole.0.1, whole.0.3); sized = whole.1 }
 
-pub add_both-requires : goal.add_both-requires
-add_both-requires c =
+pub add_columns-requires-2 : goal.add_columns-requires-2
+add_columns-requires-2 c =
     let r = c.requires.some_samples.holds in
     let m = c.requires.sums_room in
-    let whole = both_asked r (count_is c.args.planes.shape c.args.planes.index c.args.planes.count c.args.planes.sites c.requires.some_samples.samples) c.requires.t_bound.1 diagonal _ _ _ _ _ r.both_row r.planes.diagonals_held r.planes.diagonals_size
-    c.row_above.ensures.value
-    c.row_below.ensures.value (before m.both_most (omega arith)) in record { t_bound = whole.0; sized = whole.1 }
+    let whole = columns_asked r (count_is c.args.planes.shape c.args.planes.index c.args.planes.count c.args.planes.sites c.requires.some_samples.samples) c.requires.t_bound.1 diagonal _ _ r.both_row (before m.both_most (omega arith)) in record { t_bound = whole.0; sized = whole.1 }
+
+pub add_rows-requires-2 : goal.add_rows-requires-2
+add_rows-requires-2 c =
+    let r = c.requires.some_samples.holds in
+    let m = c.requires.sums_room in
+    let whole = rows_asked r (count_is c.args.planes.shape c.args.planes.index c.args.planes.count c.args.planes.sites c.requires.some_samples.samples) c.requires.t_bound.1 diagonal _ _ _ _ _ (middle _ r.both_row) r.planes.diagonals_held r.planes.diagonals_size
+    c.row_above.ensures.value c.row_below.ensures.value (columns_room r (count_is c.args.planes.shape c.args.planes.index c.args.planes.count c.args.planes.sites c.requires.some_samples.samples) c.requires.t_bound.1 m (omega arith) c.add_columns-2.ensures) in record { count_in_bounds = (whole.0.0, whole.0.1, whole.0.3); sized = whole.1 }
 
 pub returns : goal.returns
 returns c =
@@ -38,7 +44,7 @@ returns c =
     a.sums.now.diagonal _ _ _ = record {
       across = c.add_columns.ensures;
       down_columns = c.add_rows.ensures;
-      both = c.add_both.ensures;
+      both = both_added _ _ _ _ _ _ c.add_columns-2.ensures c.add_rows-2.ensures;
     } in record {
       widens = widens a.planes.shape a.planes.index a.planes.count a.planes.sites a.t _ _ up.result down.result _ _ _ _ _ _ _ _ _ _ _
           c.requires.t_bound.0 c.requires.t_bound.1

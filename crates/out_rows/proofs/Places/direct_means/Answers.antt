@@ -1,4 +1,4 @@
--- `out_rows::direct_means` meets its contract. Assumes nothing.
+-- `out_rows::Places::direct_means` meets its contract. Assumes nothing.
 use mathlib.Core.Path.{◌≡◌, ◌∙◌, ap}
 use native.Mathlib.Omega.{arith}
 use Prim.Native.Nat.{◌+◌, ◌-◌, ◌<◌}
@@ -7,7 +7,7 @@ use Rattle.toolkit.specs.Entries.{entries_next}
 use Rattle.half_rows.specs.Reading.{as_read}
 use Rattle.out_rows.specs.DirectMeans.{own_mean, other_mean}
 use Rattle.out_rows.specs.MeanLaws.{read_mean}
-use Rattle.out_rows.proofs.direct_means.Goals as goal
+use Rattle.out_rows.proofs.Places.direct_means.Goals as goal
 
 pub direct_mean-requires-clause-at_most : goal.direct_mean-requires-clause-at_most
 direct_mean-requires-clause-at_most c = search (rules, c.requires.direct_reads.own_small)
@@ -30,10 +30,10 @@ loop-k-preserved c =
           (as_read c.direct_mean.type_inv
           ∙ (read_mean (as_read (search rules)) (as_read (search rules)) (as_read (search rules)) (as_read (search rules))
           c.at-g.ensures c.direct_mean.ensures
-          ∙ ap (own_mean a.p a.work.now a.n.now a.own.now) back)),
+          ∙ ap (own_mean a.self a.work.now a.n.now a.own.now) back)),
       entries_next c.loop-k.invariant.1 room (omega arith)
           (as_read c.direct_mean-in-loop-k.type_inv
           ∙ (read_mean (as_read (search rules)) (as_read (search rules)) (as_read (search rules)) (as_read (search rules))
           c.at-g.ensures c.direct_mean-in-loop-k.ensures
-          ∙ ap (other_mean a.p a.work.now a.n.now a.other.now) back)),
+          ∙ ap (other_mean a.self a.work.now a.n.now a.other.now) back)),
     )
