@@ -48,8 +48,8 @@ fn judge(shape: Shape, black: usize, mosaic: &[u16], lengths: Lengths) -> Answer
     admission::test_under(mosaic, black)
 }
 
-// The planes, the map and work stay five slices, here and in the sweep: a struct of lent slices would owe, at each function, a clause for
-// each field that it still holds the same slice.
+// The planes, the map and work stay five slices, here and in the sweep: C lends each by itself, and a struct of mutably lent slices would owe,
+// at each function, a clause for each field that it still holds the same slice.
 // Fills the three planes and the map. The sweep is lent 4·W·H entries of the work buffer.
 fn run(
     shape: Shape,

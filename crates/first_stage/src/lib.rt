@@ -30,7 +30,7 @@ pub fn load_line(mosaic: &[u16], row: Row, loaded: &mut LoadedRows)
     east_rows::along_row(&loaded.samples, at, row.shape.width, &mut loaded.alongs);
 }
 
-// N of row i, where no record holds it: of the rows 0 and 1.
+// N of row i, where no record holds it: of the rows 0 and 1. Of the row's halves it needs the first column alone, and so does the next.
 fn top_line(samples: &[u16; 98688], row: Row, scratch: &mut Scratch, tops: &mut [i32; 8224])
     requires some_samples { SomeSamples (λ (zs : List ℕ). MosaicLent (frame row.shape zs) row.index row.base samples.now) }
     ensures tops_formed { TopsFormed row.shape row.index row.base samples.now tops.old tops.new }

@@ -87,7 +87,7 @@ fn column_place(w: usize, c: usize, x: usize) -> usize
     (positions::reflected(w, x) - c) / 2
 }
 
-// The reflected entries of the half row of columns c, c + 2, .., t on each side.
+// The reflected entries of the half row of columns c, c + 2, .., t on each side. It is given a column and no row, so it asks for no `Halves`.
 pub fn mirror(row: &mut [i32; 2064], w: usize, c: usize, t: usize)
     requires { (2 ≤ w) × (w ≤ 4096) × (c ≤ 1) × (t ≤ 4) }
     ensures { Entries (pos 0) 2064 (4 - t) (half_count w c + 4 + t)

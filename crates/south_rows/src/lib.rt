@@ -54,6 +54,7 @@ fn north_row(rows: SevenRows<'_>, w: usize, pairs: &[u16; 4112], gradients: &mut
 }
 
 // Stores N of the row at at[4] in halves, of which the first starts at column c, from entry to on. It is S of the row at at[2].
+// The column is lent, and no `Halves` made here, since the seven entries do not tell of which row they are.
 pub fn south_line(
     rows: SevenRows<'_>,
     shape: Shape,

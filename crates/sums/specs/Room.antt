@@ -72,7 +72,7 @@ module _ {f : Frame} {i count : ℕ} {diagonals verticals rh rv rd : List ℤ} (
           ),
         )
 
-    -- `add_both`, with both
+    -- `add_columns` and then `add_rows`, with both
     pub both_asked : {m : ℕ} (k : Direction) (row plane sums : List ℤ) (above below : ℕ)
         → Half f.width start 0 (chroma_count f i + 8) (trials f k i) row
         → HeldNear f i (trials f k) plane → length plane ≡ f.height * f.width

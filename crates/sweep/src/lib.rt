@@ -86,7 +86,7 @@ fn steps(
 }
 
 // The planes of a frame at a black level, and its map. The local rows are made once. tops is local and work is lent, so they stay apart: a
-// struct of both would hold a lent slice (develop, `run`).
+// struct of both would hold a mutably lent slice (develop, `run`). tops is one array of two rows of 4,112, which specs/ tell as one list.
 pub fn sweep(
     mosaic: &[u16],
     shape: Shape,
