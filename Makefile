@@ -1,5 +1,6 @@
 # make run      develops the document's example frame by the proved program and prints it; make run FRAME=path, any frame file of at
 #               most 2,048 bytes and 1,024 samples (the first time the program's crates are proved, which takes minutes)
+# make curve    prints the same through the tone curve, by the program print_curve; FRAME here too
 # make test     proves every crate and passes the tests; its last line is 'N passed, M failed'
 # make bench    times the proved library beside the versions of bench/, in some minutes, and writes docs/performance.svg
 # make profile  proves and builds the library, and prints the calls and the share of the time of each function in develop, on TEXTURE
@@ -10,13 +11,16 @@
 # make install  puts the libraries, the header and the pkg-config file under PREFIX; `make lib` comes first where it is due
 PREFIX ?= /usr/local
 CHANGES ?= transpose left-right
-.PHONY: run test bench profile tool turned soak lib install
+.PHONY: run curve test bench profile tool turned soak lib install
 
 FRAME ?= examples/glaze.bayr
 
-run:
-	@mkdir -p build && : > build/run.log
-	@{ cd crates/print_frame && rt run 2> ../../build/run.log; } < "$(FRAME)" || { cat build/run.log >&2; exit 1; }
+run: PROGRAM = print_frame
+curve: PROGRAM = print_curve
+
+run curve:
+	@mkdir -p build && : > build/$@.log
+	@(cd crates/$(PROGRAM) && rt run 2> ../../build/$@.log) < "$(FRAME)" || { cat build/$@.log >&2; exit 1; }
 
 test:
 	@tests/run

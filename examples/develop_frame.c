@@ -1,5 +1,5 @@
-/* develop_frame FILE: reads a frame file, develops and clamps it, and prints each site's colours. A refusal is printed as its number,
-   place and text. C99.
+/* develop_frame FILE: reads a frame file, develops and clamps it, and prints each site's colours by the tone curve of display panels. A
+   refusal is printed as its number, place and text. C99.
 
        cc develop_frame.c $(pkg-config --cflags --libs bayer) */
 #include <bayer.h>
@@ -49,13 +49,11 @@ static uint8_t *contents(const char *path, size_t *length)
     return file;
 }
 
-/* Clamps a plane and puts it back. */
-static void clamp(int32_t *plane, int32_t *clamped, size_t count)
+/* Clamps a developed plane, and applies the tone curve to what that gives. */
+static void show(int32_t *plane, int32_t *clamped, size_t count)
 {
     bayer_clamp(plane, count, clamped, count);
-    for (size_t k = 0; k < count; k++) {
-        plane[k] = clamped[k];
-    }
+    bayer_curve(clamped, count, plane, count);
 }
 
 static int develop(struct bayer_shape shape, struct buffers *lent)
@@ -74,9 +72,9 @@ static int develop(struct bayer_shape shape, struct buffers *lent)
     if (returned.number != BAYER_DONE) {
         return refused(returned.number, returned.place);
     }
-    clamp(lent->red, lent->clamped, count);
-    clamp(lent->green, lent->clamped, count);
-    clamp(lent->blue, lent->clamped, count);
+    show(lent->red, lent->clamped, count);
+    show(lent->green, lent->clamped, count);
+    show(lent->blue, lent->clamped, count);
     puts("row col red green blue");
     for (size_t k = 0; k < count; k++) {
         printf("%zu %zu %d %d %d\n", k / shape.width, k % shape.width, (int)lent->red[k], (int)lent->green[k], (int)lent->blue[k]);

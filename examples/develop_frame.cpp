@@ -1,5 +1,5 @@
-// develop_frame FILE: reads a frame file, develops and clamps it, and prints each site's colours. A refusal is printed as its number,
-// place and text. C++11.
+// develop_frame FILE: reads a frame file, develops and clamps it, and prints each site's colours by the tone curve of display panels. A
+// refusal is printed as its number, place and text. C++11.
 //
 //     c++ develop_frame.cpp $(pkg-config --cflags --libs bayer)
 #include <bayer.h>
@@ -73,9 +73,18 @@ std::vector<std::int32_t> clamped(const std::vector<std::int32_t> &plane)
     return held;
 }
 
+// As display panels show it.
+std::vector<std::int32_t> curved(const std::vector<std::int32_t> &clamped)
+{
+    std::vector<std::int32_t> shown(clamped.size());
+    accept(bayer_curve(clamped.data(), clamped.size(), shown.data(), shown.size()));
+    return shown;
+}
+
 void print(const Frame &frame, const Planes &planes)
 {
-    const std::vector<std::int32_t> red = clamped(planes.red), green = clamped(planes.green), blue = clamped(planes.blue);
+    const std::vector<std::int32_t> red = curved(clamped(planes.red)), green = curved(clamped(planes.green)),
+                                    blue = curved(clamped(planes.blue));
     std::cout << "row col red green blue\n";
     for (std::size_t k = 0; k < frame.mosaic.size(); k++) {
         std::cout << k / frame.shape.width << ' ' << k % frame.shape.width << ' ' << red[k] << ' ' << green[k] << ' ' << blue[k] << '\n';

@@ -1,6 +1,7 @@
 #!/usr/bin/env python3
-"""develop_frame.py LIBRARY FILE: reads a frame file, develops and clamps it, and prints each site's colours. A refusal is printed as its
-number, place and text. LIBRARY is the path of libbayer.so. Needs nothing but Python's standard library."""
+"""develop_frame.py LIBRARY FILE: reads a frame file, develops and clamps it, and prints each site's colours by the tone curve of display
+panels. A refusal is printed as its number, place and text. LIBRARY is the path of libbayer.so. Needs nothing but Python's standard
+library."""
 
 import ctypes
 import sys
@@ -45,8 +46,8 @@ class Bayer:
         library.bayer_read.restype = ReadReturned
         library.bayer_write.argtypes = [Shape] + lent(c_uint16) + lent(c_uint8)
         library.bayer_develop.argtypes = [Shape, c_size_t] + lent(c_uint16) + 3 * lent(c_int32) + lent(c_uint8) + lent(c_int32)
-        library.bayer_clamp.argtypes = 2 * lent(c_int32)
-        for call in (library.bayer_write, library.bayer_develop, library.bayer_clamp):
+        library.bayer_clamp.argtypes = library.bayer_curve.argtypes = 2 * lent(c_int32)
+        for call in (library.bayer_write, library.bayer_develop, library.bayer_clamp, library.bayer_curve):
             call.restype = Returned
         library.bayer_version.argtypes = []
         library.bayer_text.argtypes = library.bayer_decision_text.argtypes = [c_size_t]
@@ -98,6 +99,12 @@ class Bayer:
         self._accept(self.library.bayer_clamp(given, len(given), held, len(held)))
         return list(held)
 
+    def curve(self, plane):
+        """The clamped plane by the square-root tone curve, as display panels show it."""
+        given, curved = (c_int32 * len(plane))(*plane), (c_int32 * len(plane))()
+        self._accept(self.library.bayer_curve(given, len(given), curved, len(curved)))
+        return list(curved)
+
 
 def main(library, path):
     bayer = Bayer(library)
@@ -106,12 +113,12 @@ def main(library, path):
     try:
         shape, samples = bayer.read(file)
         planes, _ = bayer.develop(shape, BLACK, samples)
-        clamped = [bayer.clamp(plane) for plane in planes]
+        shown = [bayer.curve(bayer.clamp(plane)) for plane in planes]
     except Refused as refused:
         print(refused)
         return 1
     print("row col red green blue")
-    for place, colours in enumerate(zip(*clamped)):
+    for place, colours in enumerate(zip(*shown)):
         print(place // shape.width, place % shape.width, *colours)
     return 0
 

@@ -1,5 +1,6 @@
 /* Develops frames of 10-bit Bayer samples at a black level to red, green and blue planes and tells how each green was decided, holds planes
-   to 0..1,023, and reads and writes frame files (docs/FORMAT.md). Usable from C99 and C++11 on. Link libbayer.a or libbayer.so.
+   to 0..1,023, applies the square-root tone curve to them, and reads and writes frame files (docs/FORMAT.md). Usable from C99 and C++11 on.
+   Link libbayer.a or libbayer.so.
 
    Every input is answered: a call returns 0, 0 or the number and place of a refusal, and a refusal leaves every buffer as it was.
    Arguments stand in one order in all calls: shape, black level, mosaic, the planes red, green and blue, map, work, each buffer before its
@@ -8,7 +9,7 @@
    What the caller owes:
    - a pointer is valid for its length, which counts entries and not bytes, and is aligned for its type;
    - a pointer is not null, unless its length is 0: such a buffer is empty, whatever its pointer, and nothing is read or written there;
-   - lent buffers do not overlap, so nothing is developed or clamped in place;
+   - lent buffers do not overlap, so nothing is developed, clamped or curved in place;
    - during a call nothing else writes to its buffers, and nothing else reads those that it fills.
 
    What a call does besides: nothing. It allocates nothing, keeps nothing between calls, has no global state, prints nothing, and calls
@@ -31,16 +32,17 @@ extern "C" {
 #endif
 
 /* The version of this header; bayer_version() tells that of the linked library. The first number changes where a program has to be
-   built again. */
+   built again, the second where a call is new. */
 #define BAYER_VERSION_MAJOR 3
-#define BAYER_VERSION_MINOR 0
-#define BAYER_VERSION_PATCH 1
-#define BAYER_VERSION "3.0.1"
+#define BAYER_VERSION_MINOR 1
+#define BAYER_VERSION_PATCH 0
+#define BAYER_VERSION "3.1.0"
 
 /* A call takes at most this many bytes of the caller's stack: a thread with just this stack may develop from its first function. */
 #define BAYER_STACK_BYTES 589824
 
-/* What the calls admit: W and H from least to most, samples and develop's black level from 0 to most. */
+/* What the calls admit: W and H from least to most, samples and develop's black level from 0 to most; curve's plane has numbers from 0 to
+   BAYER_SAMPLE_MOST. */
 #define BAYER_SIDE_LEAST 2
 #define BAYER_SIDE_MOST 4096
 #define BAYER_SAMPLE_MOST 1023
@@ -80,7 +82,7 @@ enum bayer_decision {
 };
 
 /* The numbers that the calls return, and the place that comes with each. The order of the tests is 1, 2, 11, 3, 4, 5, 12 in develop, every
-   sample being tested for 5 before the first is refused by 12; 1 to 5 in write; read's order is told by docs/FORMAT.md. */
+   sample being tested for 5 before the first is refused by 12; 1 to 5 in write; 4, 13 in curve; read's order is told by docs/FORMAT.md. */
 enum bayer_number {
     BAYER_DONE = 0,           /* 0: success */
     BAYER_SIZE = 1,           /* 0: W or H below 2 or above 4,096 (develop, write) */
@@ -94,7 +96,8 @@ enum bayer_number {
     BAYER_BLOCK_NUMBER = 9,   /* block: its number differs (read) */
     BAYER_FILLER = 10,        /* block: a filler byte or sample is not zero (read) */
     BAYER_BLACK_LEVEL = 11,   /* 0: the black level is above 255 (develop) */
-    BAYER_UNDER_BLACK = 12    /* i*W + j of the first: a sample more than 64 under the black level (develop) */
+    BAYER_UNDER_BLACK = 12,   /* i*W + j of the first: a sample more than 64 under the black level (develop) */
+    BAYER_UNCLAMPED = 13      /* position of the first: a number in the plane below 0 or above 1,023 (curve) */
 };
 
 /* W, H and the phase of a frame. */
@@ -141,6 +144,12 @@ struct bayer_returned bayer_develop(struct bayer_shape shape, size_t black, cons
 
 /* Fills clamped with each value of plane held to 0..1,023; both have the same length, which may be any. */
 struct bayer_returned bayer_clamp(const int32_t *plane, size_t plane_length, int32_t *clamped, size_t clamped_length);
+
+/* Applies the square-root tone curve of display panels: fills curved with the curve's entry for each number of plane, which is clamped; both
+   have the same length, which may be any. Entry 0 is 0, and for v from 1 to 1,023 the entry t is the whole number with
+   (2*t - 1)^2 < 4,092*v < (2*t + 1)^2, the square root of 1,023*v rounded. No entry is below the one before it, none is below its v, and
+   none is above 1,023. */
+struct bayer_returned bayer_curve(const int32_t *plane, size_t plane_length, int32_t *curved, size_t curved_length);
 
 /* What a returned number says, in a few words of English; a text also for a number that no call returns. Never null, never to be freed. */
 const char *bayer_text(size_t number);

@@ -15,6 +15,7 @@ static const char texts[][72] = {
     "a filler byte or sample is not zero",
     "a black level above 255",
     "a sample more than 64 under the black level",
+    "a number in the plane below 0 or above 1023",
 };
 
 static const char decisions[][32] = {

@@ -1,10 +1,11 @@
 //! What is measured. Times are those that a thread has a core, unless a function says otherwise; calls that are compared go by turns.
 
 use crate::clock::core_time;
-use crate::optimised::Optimised;
+use crate::optimised::{curve::curve, Optimised};
 use crate::plain::Plain;
 use crate::textures::Texture;
 use crate::versions::{Literal, Proved, Version};
+use reference::calls::Refusal;
 use std::sync::Barrier;
 use std::time::Instant;
 
@@ -110,6 +111,24 @@ pub fn level_speeds(texture: Texture, side: usize, runs: usize) -> [Spread; 2] {
         }
     }
     versions.map(|timed| Spread::of(timed.speeds))
+}
+
+/// Millions of numbers a second of the curve, of the proved and the optimised version, on a clamped plane of noise.
+pub fn curve_speeds(side: usize, runs: usize) -> [Spread; 2] {
+    type Curve = fn(&[i32], &mut [i32]) -> Result<(), Refusal>;
+    let curves: [Curve; 2] = [compare::curve, curve];
+    let mosaic = Texture::Noise.mosaic(side, side);
+    let plane: Vec<i32> = mosaic.into_iter().map(i32::from).collect();
+    let mut timed = curves.map(|curve| (curve, vec![-1; plane.len()], Vec::new()));
+    for _ in 0..runs {
+        for (curve, curved, speeds) in &mut timed {
+            let start = core_time();
+            assert_eq!(curve(&plane, curved), Ok(()));
+            speeds.push(plane.len() as f64 / (core_time() - start) / 1e6);
+        }
+    }
+    assert!(timed[PROVED].1 == timed[OPTIMISED].1);
+    timed.map(|(_, _, speeds)| Spread::of(speeds))
 }
 
 /// Nanoseconds a site of the proved and the optimised version on noise, the best of several runs.

@@ -1,14 +1,15 @@
 //! The plain and the optimised version against the independent implementation, at black levels from 0 to 255: every entry of every plane
-//! and of the map.
+//! and of the map; and the optimised curve against the independent one.
 
 #[path = "../../tests/reference/tests/common/mod.rs"]
 mod common;
 
-use bench::optimised::Optimised;
+use bench::optimised::{curve::curve, Optimised};
 use bench::plain::Plain;
 use bench::versions::Version;
 use common::black::{bright_enough, frame_and_level, level};
 use common::{developed_at, frame_of_sides, Developed, Generator, Kind, KINDS};
+use reference::calls;
 use reference::sites::Frame;
 
 /// The planes and the map of a version at a black level, from buffers that hold something else.
@@ -105,4 +106,40 @@ fn optimised_on_every_small_size_and_phase() {
 #[test]
 fn optimised_with_used_buffers() {
     compare_with_used_buffers::<Optimised>(76);
+}
+
+fn compare_curves(plane: &[i32], before: &[i32]) {
+    let (mut expected, mut filled) = (before.to_vec(), before.to_vec());
+    let answer = calls::curve(plane, &mut expected);
+    assert_eq!(curve(plane, &mut filled), answer, "{plane:?}");
+    assert!(filled == expected, "{plane:?}");
+}
+
+#[test]
+fn the_optimised_curve_at_every_number() {
+    let all: Vec<i32> = (0..1_024).collect();
+    compare_curves(&all, &[-5; 1_024]);
+    for number in (-1_100..2_100).chain([i32::MIN, i32::MAX, -65_536, 65_536]) {
+        compare_curves(&[7, number, 1_023, -1], &[-5; 4]);
+        compare_curves(&[number], &[-5]);
+    }
+}
+
+#[test]
+fn the_optimised_curve_on_planes_of_every_length() {
+    let mut generator = Generator::new(77);
+    for length in 0..200 {
+        let mut plane: Vec<i32> = (0..length).map(|_| generator.sample().into()).collect();
+        let before = generator.numbers(length);
+        compare_curves(&plane, &before);
+        compare_curves(&plane, &generator.numbers(length + 1));
+        for number in [-1, 1_024] {
+            let place = generator.size(0, length);
+            if let Some(entry) = plane.get_mut(place) {
+                *entry = number;
+            }
+            compare_curves(&plane, &before);
+        }
+        compare_curves(&plane, &before[..length / 2]);
+    }
 }

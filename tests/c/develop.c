@@ -1,5 +1,5 @@
-/* bayer_develop and bayer_clamp called from C: the document's frame, also at a black level, one with every decision, planes clamped, refusals
-   that leave the buffers. */
+/* bayer_develop, bayer_clamp and bayer_curve called from C: the document's frame, also at a black level, one with every decision, planes
+   clamped and curved, refusals that leave the buffers. */
 #include <string.h>
 
 #include "bayer.h"
@@ -123,6 +123,45 @@ static void clamps(void)
     expect(memcmp(clamped, held, sizeof held) == 0, "each value is held to 0..1,023");
 }
 
+static void curves(void)
+{
+    const int32_t plane[7] = {0, 1, 2, 511, 512, 1021, 1023};
+    const int32_t entries[7] = {0, 32, 45, 723, 724, 1022, 1023};
+    int32_t curved[7] = {7, 7, 7, 7, 7, 7, 7};
+    expect(is(bayer_curve(plane, 7, curved, 7), 0, 0), "curve returns 0, 0");
+    expect(memcmp(curved, entries, sizeof entries) == 0, "each number is taken to its entry");
+}
+
+static void curves_every_number(void)
+{
+    enum { MOST = BAYER_SAMPLE_MOST };
+    int32_t plane[MOST + 1], curved[MOST + 1];
+    for (int32_t v = 0; v <= MOST; v++) {
+        plane[v] = v;
+        curved[v] = -1;
+    }
+    int by_rule = is(bayer_curve(plane, MOST + 1, curved, MOST + 1), 0, 0) && curved[0] == 0;
+    for (int32_t v = 1; v <= MOST; v++) {
+        const int64_t t = curved[v];
+        by_rule = by_rule && t > 0 && (2 * t - 1) * (2 * t - 1) < 4092 * v && 4092 * v < (2 * t + 1) * (2 * t + 1);
+    }
+    expect(by_rule, "all 1,024 entries follow the rule");
+}
+
+static void curve_refuses(void)
+{
+    const int32_t below[4] = {5, 1023, -1, 1024}, above[4] = {5, 1024, -1, 1023}, least[4] = {INT32_MIN, 0, 0, 0};
+    const int32_t most[4] = {0, 0, 0, INT32_MAX}, kept[4] = {7, 7, 7, 7};
+    int32_t curved[4] = {7, 7, 7, 7};
+    expect(is(bayer_curve(below, 4, curved, 3), 4, 0), "curve refuses lengths that differ first: 4, 0");
+    expect(is(bayer_curve(below, 3, curved, 4), 4, 0), "whichever is the longer: 4, 0");
+    expect(is(bayer_curve(below, 4, curved, 4), 13, 2), "then the plane, for -1: 13 and the place of the first");
+    expect(is(bayer_curve(above, 4, curved, 4), 13, 1), "and for 1,024: 13 and the place of the first");
+    expect(is(bayer_curve(least, 4, curved, 4), 13, 0), "also for the least number of all: 13, 0");
+    expect(is(bayer_curve(most, 4, curved, 4), 13, 3), "and the greatest: 13, 3");
+    expect(memcmp(curved, kept, sizeof kept) == 0, "a refused curve leaves the plane");
+}
+
 int main(void)
 {
     develops_the_example();
@@ -130,5 +169,8 @@ int main(void)
     maps_every_decision();
     refuses();
     clamps();
+    curves();
+    curves_every_number();
+    curve_refuses();
     return expected();
 }

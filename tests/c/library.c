@@ -1,4 +1,4 @@
-/* What bayer.h says beside the four calls: numbers, texts, version, lengths, and null pointers with the length 0. */
+/* What bayer.h says beside the calls: numbers, texts, version, lengths, and null pointers with the length 0. */
 #include <stdio.h>
 #include <string.h>
 
@@ -13,18 +13,19 @@ static const uint16_t mosaic[COUNT] = {100, 40, 61, 200};
 static void texts(void)
 {
     int differ = 1;
-    for (size_t number = BAYER_DONE; number <= BAYER_UNDER_BLACK + 1; number++) {
+    for (size_t number = BAYER_DONE; number <= BAYER_UNCLAMPED + 1; number++) {
         for (size_t other = 0; other < number; other++) {
             differ = differ && strcmp(bayer_text(number), bayer_text(other)) != 0;
         }
     }
     expect(differ && bayer_text(BAYER_DONE)[0] != '\0', "each number has a text of its own");
-    expect(strcmp(bayer_text(BAYER_UNDER_BLACK + 1), bayer_text(SIZE_MAX)) == 0, "numbers that no call returns have one text");
+    expect(strcmp(bayer_text(BAYER_UNCLAMPED + 1), bayer_text(SIZE_MAX)) == 0, "numbers that no call returns have one text");
     expect(strstr(bayer_text(BAYER_SIZE), "4096") != NULL, "the text of 1 is that of the size");
     expect(strstr(bayer_text(BAYER_SAMPLE), "1023") != NULL, "the text of 5 is that of the samples");
     expect(strstr(bayer_text(BAYER_FILLER), "filler") != NULL, "the text of 10 is that of the filler");
     expect(strstr(bayer_text(BAYER_BLACK_LEVEL), "255") != NULL, "the text of 11 is that of the black level");
     expect(strstr(bayer_text(BAYER_UNDER_BLACK), "64 under") != NULL, "the text of 12 is that of samples under it");
+    expect(strstr(bayer_text(BAYER_UNCLAMPED), "below 0 or above 1023") != NULL, "the text of 13 is that of planes that are not clamped");
 }
 
 static void decision_texts(void)
@@ -127,6 +128,7 @@ static void null_mosaics_and_files(void)
 
 static void null_planes(void)
 {
+    const int32_t unclamped[COUNT] = {-1, -1, -1, -1};
     int32_t red[COUNT], green[COUNT], blue[COUNT], work[WORK];
     uint8_t map[COUNT];
     struct bayer_returned returned = bayer_develop(shape, 0, NULL, 0, red, COUNT, green, COUNT, blue, COUNT, map, COUNT, work, WORK);
@@ -147,6 +149,10 @@ static void null_planes(void)
     expect(is(bayer_clamp(NULL, 0, NULL, 0), BAYER_DONE), "clamp, both null with length 0: 0, 0");
     expect(is(bayer_clamp(NULL, 0, red, COUNT), BAYER_BUFFER_LENGTH), "clamp, plane null with length 0: 4, 0");
     expect(is(bayer_clamp(work, 0, NULL, 0), BAYER_DONE), "clamp, one null and one not, both with length 0: 0, 0");
+    expect(is(bayer_curve(NULL, 0, NULL, 0), BAYER_DONE), "curve, both null with length 0: 0, 0");
+    expect(is(bayer_curve(NULL, 0, red, COUNT), BAYER_BUFFER_LENGTH), "curve, plane null with length 0: 4, 0");
+    expect(is(bayer_curve(unclamped, COUNT, NULL, 0), BAYER_BUFFER_LENGTH), "curve, curved null with length 0: 4, 0");
+    expect(is(bayer_curve(unclamped, 0, NULL, 0), BAYER_DONE), "curve, one null and one not, both with length 0: 0, 0");
 }
 
 int main(void)

@@ -4,8 +4,8 @@
 //! each by the best runs.
 
 use bench::measures::{
-    develop_speeds, file_speeds, level_speeds, site_costs, together, Spread, Together,
-    BRIGHT_ENOUGH, LEVELS, OPTIMISED, PLAIN, PROVED, VERSIONS,
+    curve_speeds, develop_speeds, file_speeds, level_speeds, site_costs, together, Spread,
+    Together, BRIGHT_ENOUGH, LEVELS, OPTIMISED, PLAIN, PROVED, VERSIONS,
 };
 use bench::picture::{drawn, Chart, Group};
 use bench::textures::TEXTURES;
@@ -104,6 +104,17 @@ fn level_table() {
     }
 }
 
+fn curve_table() {
+    let title = "millions of numbers a second, the curve";
+    head(title, &["best / median / worst".to_string()]);
+    let speeds = curve_speeds(SIDE, RUNS);
+    for (name, speed) in VERSIONS.iter().zip(speeds) {
+        row(name, &[spread(speed, 0)]);
+    }
+    let ratio = speeds[PROVED].best / speeds[OPTIMISED].best;
+    row("proved / optimised", &[format!("{ratio:.2}")]);
+}
+
 fn file_table() {
     head("MB/s", &["best / median / worst".to_string()]);
     let [write, read] = file_speeds(SIDE, RUNS);
@@ -191,6 +202,7 @@ fn main() -> ExitCode {
     );
     let speeds = develop_tables();
     level_table();
+    curve_table();
     file_table();
     let costs = growth_table();
     threads_table();

@@ -3,6 +3,7 @@
 //! but for the weighted means, which divide. Each such loop is a function of its own and not inlined, so that the compiler knows that what
 //! it fills overlaps nothing that it reads.
 
+pub mod curve;
 mod differences;
 mod gradients;
 mod green;

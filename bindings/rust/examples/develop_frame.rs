@@ -1,10 +1,10 @@
-//! develop_frame FILE: reads a frame file, develops and clamps it, and prints each site's colours. A refusal is printed as its number,
-//! place and text.
+//! develop_frame FILE: reads a frame file, develops and clamps it, and prints each site's colours by the tone curve of display panels. A
+//! refusal is printed as its number, place and text.
 
 use std::io::Write;
 use std::process::ExitCode;
 
-use bayer::{clamp, develop, read, read_length, Refusal, Shape};
+use bayer::{clamp, curve, develop, read, read_length, Refusal, Shape};
 
 type Plane = Vec<i32>;
 
@@ -12,7 +12,7 @@ type Plane = Vec<i32>;
 /// off before, as those of the document's example.
 const BLACK: usize = 0;
 
-/// The frame's shape and its three clamped planes.
+/// The frame's shape and its three planes, clamped and curved.
 fn developed(file: &[u8]) -> Result<(Shape, [Plane; 3]), Refusal> {
     let mut samples = vec![0; read_length(file.len())];
     let shape = read(file, &mut samples)?;
@@ -30,11 +30,12 @@ fn developed(file: &[u8]) -> Result<(Shape, [Plane; 3]), Refusal> {
         &mut map,
         &mut work,
     )?;
-    let mut held = [(); 3].map(|()| vec![0; count]);
-    for (plane, clamped) in [red, green, blue].iter().zip(&mut held) {
-        clamp(plane, clamped)?;
+    let mut clamped = vec![0; count];
+    for plane in [&mut red, &mut green, &mut blue] {
+        clamp(plane, &mut clamped)?;
+        curve(&clamped, plane)?;
     }
-    Ok((shape, held))
+    Ok((shape, [red, green, blue]))
 }
 
 fn print(shape: Shape, [red, green, blue]: &[Plane; 3]) -> std::io::Result<()> {

@@ -58,6 +58,13 @@ extern "C" {
         clamped_length: usize,
     ) -> Returned;
 
+    pub fn bayer_curve(
+        plane: *const i32,
+        plane_length: usize,
+        curved: *mut i32,
+        curved_length: usize,
+    ) -> Returned;
+
     pub fn bayer_text(number: usize) -> *const c_char;
 
     pub fn bayer_decision_text(code: usize) -> *const c_char;

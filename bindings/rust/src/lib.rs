@@ -1,5 +1,5 @@
 //! Develops frames of 10-bit Bayer samples at a black level to red, green and blue planes and a map of how each green was decided, clamps
-//! planes, and reads and writes frame files.
+//! planes, applies the square-root tone curve to them, and reads and writes frame files.
 //!
 //! Safe functions over slices; the work is done by libbayer. Every input is answered: a call succeeds, or returns a [`Refusal`] and leaves
 //! every buffer as it was. Nothing is allocated, and calls may run in any number of threads.
@@ -36,7 +36,7 @@ pub struct Shape {
 /// The least and the greatest side of a frame.
 pub const SIDES: std::ops::RangeInclusive<usize> = 2..=4096;
 
-/// The greatest sample.
+/// The greatest sample, and the greatest number of a clamped plane.
 pub const SAMPLE_MOST: u16 = 1023;
 
 /// The greatest black level.
@@ -158,6 +158,21 @@ pub fn clamp(plane: &[i32], clamped: &mut [i32]) -> Result<(), Refusal> {
             plane.len(),
             clamped.as_mut_ptr(),
             clamped.len(),
+        )
+    };
+    returned.accepted()
+}
+
+/// Applies the square-root tone curve of display panels: fills `curved` with the curve's entry for each number of `plane`, which is clamped;
+/// both have the same length. Entry 0 is 0, and for v from 1 to 1,023 the entry is the square root of 1,023·v, rounded.
+pub fn curve(plane: &[i32], curved: &mut [i32]) -> Result<(), Refusal> {
+    // Both slices are lent with their own lengths, and one that may be changed is lent to no other.
+    let returned = unsafe {
+        ffi::bayer_curve(
+            plane.as_ptr(),
+            plane.len(),
+            curved.as_mut_ptr(),
+            curved.len(),
         )
     };
     returned.accepted()

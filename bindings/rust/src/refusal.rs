@@ -35,6 +35,8 @@ impl Refusal {
     pub const BLACK_LEVEL: usize = 11;
     /// A sample more than 64 under the black level; the place is that of the first.
     pub const UNDER_BLACK: usize = 12;
+    /// A number in the plane below 0 or above 1,023; the place is that of the first.
+    pub const UNCLAMPED: usize = 13;
 }
 
 impl fmt::Display for Refusal {

@@ -1,8 +1,8 @@
 //! The wrapper's calls: the example frame, the way through a file, each refusal, and what the header says of lengths and texts.
 
 use bayer::{
-    clamp, decision_text, develop, read, read_length, text, write, Decision, Refusal, Shape,
-    BLACK_MOST, UNDER_BLACK_MOST,
+    clamp, curve, decision_text, develop, read, read_length, text, write, Decision, Refusal, Shape,
+    BLACK_MOST, SAMPLE_MOST, UNDER_BLACK_MOST,
 };
 
 const SHAPE: Shape = Shape {
@@ -113,6 +113,36 @@ fn clamps() {
 }
 
 #[test]
+fn curves() {
+    let plane: Vec<i32> = (0..=SAMPLE_MOST.into()).collect();
+    let mut curved = vec![7; plane.len()];
+    assert_eq!(curve(&plane, &mut curved), Ok(()));
+    assert_eq!([curved[0], curved[1], curved[1023]], [0, 32, 1023]);
+    for (v, &t) in (1..).zip(&curved[1..]) {
+        let rule = (2 * t - 1).pow(2) < 4092 * v && 4092 * v < (2 * t + 1).pow(2);
+        assert!(rule && t > 0, "{v} {t}");
+    }
+    assert_eq!(curve(&[], &mut []), Ok(()));
+}
+
+#[test]
+fn curve_refuses_and_leaves_the_plane() {
+    let refuses = |plane: &[i32], room: usize, number, place| {
+        let mut curved = vec![7; room];
+        assert_eq!(curve(plane, &mut curved), refused(number, place));
+        assert!(curved.iter().all(|&entry| entry == 7));
+    };
+    for room in [0, 2, 4] {
+        refuses(&[-1, 1024, 0], room, Refusal::BUFFER_LENGTH, 0);
+    }
+    refuses(&[-1], 0, Refusal::BUFFER_LENGTH, 0);
+    for high_or_low in [-1, 1024, i32::MIN, i32::MAX] {
+        refuses(&[high_or_low], 1, Refusal::UNCLAMPED, 0);
+        refuses(&[0, 1023, high_or_low, -1], 4, Refusal::UNCLAMPED, 2);
+    }
+}
+
+#[test]
 fn writes_the_stored_example_and_reads_it_back() {
     let file = written();
     assert_eq!(file, include_bytes!("../../../examples/glaze.bayr"));
@@ -179,9 +209,9 @@ fn lengths_for_any_sides() {
 
 #[test]
 fn texts_and_version() {
-    let texts: std::collections::HashSet<_> = (0..=13).map(text).collect();
-    assert_eq!(texts.len(), 14);
-    assert_eq!(text(usize::MAX), text(13));
+    let texts: std::collections::HashSet<_> = (0..=14).map(text).collect();
+    assert_eq!(texts.len(), 15);
+    assert_eq!(text(usize::MAX), text(14));
     let refusal = Refusal {
         number: Refusal::SAMPLE,
         place: 9,

@@ -3,7 +3,8 @@
 
 ghost use Rattle.std.specs.Prelude.{◌≡◌, length, Err};
 ghost use Rattle.frame.specs.Sites.{frame as frame_of, Colour};
-ghost use Rattle.frame.specs.Calls.{develop_answer, clamp_answer, clamped as clamped_plane, after};
+ghost use Rattle.frame.specs.Calls.{develop_answer, clamp_answer, curve_answer, clamped as clamped_plane, after};
+ghost use Rattle.tone_curve.specs.ToneCurve.{curved as curved_plane};
 ghost use Rattle.method.specs.Green.{decision_map};
 ghost use Rattle.method.specs.Planes.{plane};
 ghost use Rattle.develop.specs.LentBuffers.{lengths, KeptOnRefusal};
@@ -106,6 +107,14 @@ pub fn bayer_clamp(plane: &[i32], clamped: &mut [i32]) -> Returned
         (clamped_plane plane.now) clamped.old }
 {
     clamp::clamp(plane, clamped).into()
+}
+
+// Fills `curved` with the numbers of a clamped plane, each through the square-root tone curve; both have the same length.
+pub fn bayer_curve(plane: &[i32], curved: &mut [i32]) -> Returned
+    ensures answer { Exported (curve_answer plane.now (length curved.old)) result }
+    ensures left { curved.new ≡ after (curve_answer plane.now (length curved.old)) (curved_plane plane.now) curved.old }
+{
+    curve::curve(plane, curved).into()
 }
 
 // Develops a frame at a black level into three planes and the decision map, of W·H entries each, with a work buffer of 4·W·H entries or

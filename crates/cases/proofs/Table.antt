@@ -1,4 +1,4 @@
--- The case table as one fact: each of its 30 rows holds. Assumes nothing.
+-- The case table as one fact: each of its 31 rows holds. Assumes nothing.
 use Rattle.std.specs.Prelude.{◌≡◌, refl, List, [], ◌++◌, ℕ, length, get_or}
 use Rattle.std.proofs.Common.{sym, ◌∙◌, ap, ap₂}
 use Rattle.std.proofs.lemmas.List.{map-append}
@@ -24,7 +24,7 @@ unfolding cases
 all_cases = both glaze_cases _ glaze_cases_hold (both frame_cases answer_cases frame_cases_hold answer_cases_hold)
 
 -- no row is missing
-pub cases_counted : length cases ≡ 30
+pub cases_counted : length cases ≡ 31
 unfolding cases glaze_cases frame_cases answer_cases
 cases_counted = refl
 

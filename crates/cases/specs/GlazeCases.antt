@@ -1,4 +1,4 @@
--- Document 01, "Glaze cases": K1 to K12, and the text of K1's frame. Definitions alone. Assumes nothing.
+-- Document 01, "Glaze cases": K1 to K12, and the text of K1's frame, clamped and through the curve. Definitions alone. Assumes nothing.
 use Rattle.std.specs.Prelude.{List, [], ◌∷◌, ◌++◌, ℕ, pos, negsuc}
 use Rattle.cases.specs.Row.{site, takes, numbers, naturals, Case}
 use Rattle.frame.specs.Sites.{Frame, red, green, blue}
@@ -7,6 +7,7 @@ use Rattle.method.specs.Green.{horizontal, diagonal, strong_down, weak, outcome,
 use Rattle.method.specs.Planes.{weighted_mean, final_round, plane}
 use Rattle.frame_file.specs.Lists.{zeros}
 use Rattle.frame_file.specs.FrameFile as File
+use Rattle.printing.specs.declared.Tone.TheVariants.{Clamped, Curved}
 use Rattle.printing.specs.Printing.{frame_text}
 
 abbrev four : {X : Type 0} → X → X → X → X → FourDirections X
@@ -28,14 +29,28 @@ edge_frame = record {
   samples = edge_row ++ edge_row ++ edge_row ++ edge_row ++ edge_row ++ edge_row ++ edge_row ++ edge_row;
 }
 
+-- "row col red green blue"
+abbrev heading_line : List ℕ
+heading_line =
+    (114 ∷ 111 ∷ 119 ∷ 32 ∷ 99 ∷ 111 ∷ 108 ∷ 32 ∷ 114 ∷ 101 ∷ 100 ∷ 32 ∷ 103 ∷ 114 ∷ 101 ∷ 101 ∷ 110 ∷ 32 ∷ 98 ∷ 108 ∷ 117 ∷ 101 ∷ 10 ∷ [])
+
 -- the five lines that document 01 prints of the small frame
 abbrev document_text : List ℕ
 document_text =
-    (114 ∷ 111 ∷ 119 ∷ 32 ∷ 99 ∷ 111 ∷ 108 ∷ 32 ∷ 114 ∷ 101 ∷ 100 ∷ 32 ∷ 103 ∷ 114 ∷ 101 ∷ 101 ∷ 110 ∷ 32 ∷ 98 ∷ 108 ∷ 117 ∷ 101 ∷ 10 ∷ [])
+    heading_line
     ++ (48 ∷ 32 ∷ 48 ∷ 32 ∷ 49 ∷ 48 ∷ 48 ∷ 32 ∷ 53 ∷ 49 ∷ 32 ∷ 50 ∷ 48 ∷ 48 ∷ 10 ∷ [])
     ++ (48 ∷ 32 ∷ 49 ∷ 32 ∷ 57 ∷ 48 ∷ 32 ∷ 52 ∷ 48 ∷ 32 ∷ 49 ∷ 57 ∷ 48 ∷ 10 ∷ [])
     ++ (49 ∷ 32 ∷ 48 ∷ 32 ∷ 49 ∷ 49 ∷ 49 ∷ 32 ∷ 54 ∷ 49 ∷ 32 ∷ 50 ∷ 49 ∷ 49 ∷ 10 ∷ [])
     ++ (49 ∷ 32 ∷ 49 ∷ 32 ∷ 49 ∷ 48 ∷ 48 ∷ 32 ∷ 53 ∷ 49 ∷ 32 ∷ 50 ∷ 48 ∷ 48 ∷ 10 ∷ [])
+
+-- document 02, A4: the same lines, each number through the curve
+abbrev curve_text : List ℕ
+curve_text =
+    heading_line
+    ++ (48 ∷ 32 ∷ 48 ∷ 32 ∷ 51 ∷ 50 ∷ 48 ∷ 32 ∷ 50 ∷ 50 ∷ 56 ∷ 32 ∷ 52 ∷ 53 ∷ 50 ∷ 10 ∷ [])
+    ++ (48 ∷ 32 ∷ 49 ∷ 32 ∷ 51 ∷ 48 ∷ 51 ∷ 32 ∷ 50 ∷ 48 ∷ 50 ∷ 32 ∷ 52 ∷ 52 ∷ 49 ∷ 10 ∷ [])
+    ++ (49 ∷ 32 ∷ 48 ∷ 32 ∷ 51 ∷ 51 ∷ 55 ∷ 32 ∷ 50 ∷ 53 ∷ 48 ∷ 32 ∷ 52 ∷ 54 ∷ 53 ∷ 10 ∷ [])
+    ++ (49 ∷ 32 ∷ 49 ∷ 32 ∷ 51 ∷ 50 ∷ 48 ∷ 32 ∷ 50 ∷ 50 ∷ 56 ∷ 32 ∷ 52 ∷ 53 ∷ 50 ∷ 10 ∷ [])
 
 unfoldable pub glaze_cases : List Case
 glaze_cases =
@@ -78,5 +93,7 @@ glaze_cases =
     -- K12: a block 1 with only byte 4 more, 255, has check 1,276
     ∷ record { given = naturals (File.check (File.little_endian_bytes 4 1 ++ (255 ∷ zeros 503)) ∷ []); told = naturals (1276 ∷ []) }
     -- what the program prints of the frame of K1
-    ∷ record { given = naturals (frame_text small_frame); told = naturals document_text }
+    ∷ record { given = naturals (frame_text Clamped small_frame); told = naturals document_text }
+    -- and the second program
+    ∷ record { given = naturals (frame_text Curved small_frame); told = naturals curve_text }
     ∷ []

@@ -12,19 +12,28 @@ use Rattle.develop.proofs.develop.Reads as develop_contract
 use Rattle.clamp.specs.contracts.clamp as clamp
 use Rattle.clamp.proofs.clamp.Kinds as clamp_kinds
 use Rattle.clamp.proofs.clamp.Reads as clamp_contract
+use Rattle.curve.specs.contracts.curve as curve
+use Rattle.curve.proofs.curve.Kinds as curve_kinds
+use Rattle.curve.proofs.curve.Reads as curve_contract
 use Rattle.reader.specs.contracts.read as read
 use Rattle.reader.proofs.read.Kinds as read_kinds
 use Rattle.reader.proofs.read.Reads as read_contract
 use Rattle.writer.specs.contracts.write as write
 use Rattle.writer.proofs.write.Kinds as write_kinds
 use Rattle.writer.proofs.write.Reads as write_contract
-use Rattle.demands.specs.WhatCallsLeave.{buffers, DevelopLeaves, ClampLeaves, ReadLeaves, WriteLeaves}
+use Rattle.demands.specs.WhatCallsLeave.{buffers, DevelopLeaves, ClampLeaves, CurveLeaves, ReadLeaves, WriteLeaves}
 
 -- clamp(plane, clamped)
 pub clamp_leaves : (κs : Lfts 2) (a : ArgsD clamp.signature κs) (r : ResD clamp.signature κs)
     (s : AtExit (ended_of 2 clamp_kinds.ps clamp_kinds.r) κs)
     → clamp_contract.Learnt κs a r s ↔ ClampLeaves a.0.now a.1.0.now r s.1.0.now
 clamp_leaves κs a r s = (λ p. record { answered = p.0; plane_left = p.1 }, λ q. (q.answered, q.plane_left))
+
+-- curve(plane, curved)
+pub curve_leaves : (κs : Lfts 2) (a : ArgsD curve.signature κs) (r : ResD curve.signature κs)
+    (s : AtExit (ended_of 2 curve_kinds.ps curve_kinds.r) κs)
+    → curve_contract.Learnt κs a r s ↔ CurveLeaves a.0.now a.1.0.now r s.1.0.now
+curve_leaves κs a r s = (λ p. record { answered = p.0; plane_left = p.1 }, λ q. (q.answered, q.plane_left))
 
 -- read(file, samples)
 pub read_leaves : (κs : Lfts 2) (a : ArgsD read.signature κs) (r : ResD read.signature κs)

@@ -8,12 +8,12 @@ use Rattle.frame.specs.declared.Refusal.TheVariants.{BufferLength}
 use Rattle.frame.specs.Sites.{Frame}
 use Rattle.frame.specs.Calls.{success, returned, returned_by_read, lengths_allowed, develop_answer, clamp_answer, Answer, ReadAnswer, no_refusal}
 use Rattle.frame_file.specs.FrameFile.{file_length, Reading, accepted, refused, answer_of, samples_of, reading, read_answer, samples_after_read, write_answer, file_after_write}
-use Rattle.demands.specs.WhatCallsLeave.{Buffers, buffers, lengths_of, LengthsAllowed, DevelopLeaves, ClampLeaves, ReadLeaves, WriteLeaves}
+use Rattle.demands.specs.WhatCallsLeave.{Buffers, buffers, lengths_of, LengthsAllowed, DevelopLeaves, ClampLeaves, CurveLeaves, ReadLeaves, WriteLeaves}
 use Rattle.demands.proofs.Acceptance.{lengths_yes, yes_lengths}
 use Rattle.demands.specs.Conditions.{both_ways, equal_decides, by_condition}
-use Rattle.demands.specs.Rows.{RowOfWrite, RowOfDevelop, RowOfClamp}
+use Rattle.demands.specs.Rows.{RowOfWrite, RowOfDevelop, RowOfClamp, RowOfCurve}
 use Rattle.demands.specs.Rows.{number_4, done}
-use Rattle.demands.proofs.Rows.{write_in_order, develop_in_order}
+use Rattle.demands.proofs.Rows.{write_in_order, develop_in_order, curve_in_order}
 use Rattle.demands.specs.ReadRows.{RowOfRead}
 use Rattle.demands.proofs.ReadRows.{reading_row}
 
@@ -55,6 +55,18 @@ module _ (numbers before : List ℤ) where
       → left ≡ before
   clamp_refusal (Ok _) left call no_success = absurd (no_success refl)
   clamp_refusal (Err why) left call no_success = call.plane_left
+
+-- ---- curve
+
+module _ (numbers before : List ℤ) where
+  pub curve_row : (answer : Answer) (left : List ℤ) → CurveLeaves numbers before answer left
+      → RowOfCurve numbers (length before ≡ length numbers) (returned answer)
+  curve_row answer left call = rw call.answered (curve_in_order numbers (length before))
+
+  pub curve_refusal : (answer : Answer) (left : List ℤ) → CurveLeaves numbers before answer left → ¬ (returned answer ≡ success)
+      → left ≡ before
+  curve_refusal (Ok _) left call no_success = absurd (no_success refl)
+  curve_refusal (Err why) left call no_success = call.plane_left
 
 -- ---- read
 

@@ -7,7 +7,7 @@ use borrow.Fn.World.{ArgsD, ResD}
 use borrow.Fn.Kinds.{ended_of}
 use denote.Triple.Clauses.{AtExit}
 use Rattle.frame.specs.Sites.{Frame, frame}
-use Rattle.frame.specs.Calls.{develop_answer, clamp_answer}
+use Rattle.frame.specs.Calls.{develop_answer, clamp_answer, curve_answer}
 use Rattle.frame_file.specs.FrameFile.{read_answer, write_answer}
 use Rattle.bayer.specs.declared.Returned.{Returned}
 use Rattle.bayer.specs.declared.ReadReturned.{ReadReturned}
@@ -18,13 +18,16 @@ use Rattle.bayer.proofs.bayer_develop.Reads as develop_contract
 use Rattle.bayer.specs.contracts.bayer_clamp as clamp
 use Rattle.bayer.proofs.bayer_clamp.Kinds as clamp_kinds
 use Rattle.bayer.proofs.bayer_clamp.Reads as clamp_contract
+use Rattle.bayer.specs.contracts.bayer_curve as curve
+use Rattle.bayer.proofs.bayer_curve.Kinds as curve_kinds
+use Rattle.bayer.proofs.bayer_curve.Reads as curve_contract
 use Rattle.bayer.specs.contracts.bayer_read as read
 use Rattle.bayer.proofs.bayer_read.Kinds as read_kinds
 use Rattle.bayer.proofs.bayer_read.Reads as read_contract
 use Rattle.bayer.specs.contracts.bayer_write as write
 use Rattle.bayer.proofs.bayer_write.Kinds as write_kinds
 use Rattle.bayer.proofs.bayer_write.Reads as write_contract
-use Rattle.demands.specs.WhatCallsLeave.{Buffers, buffers, lengths_of, DevelopLeaves, ClampLeaves, ReadLeaves, WriteLeaves}
+use Rattle.demands.specs.WhatCallsLeave.{Buffers, buffers, lengths_of, DevelopLeaves, ClampLeaves, CurveLeaves, ReadLeaves, WriteLeaves}
 
 -- bayer_clamp(plane, clamped)
 abbrev pub ClampReturns : List ℤ → List ℤ → Returned → List ℤ → Type 0
@@ -35,6 +38,16 @@ pub clamp_returns : (κs : Lfts 2) (a : ArgsD clamp.signature κs) (r : ResD cla
     (s : AtExit (ended_of 2 clamp_kinds.ps clamp_kinds.r) κs)
     → clamp_contract.Learnt κs a r s ↔ ClampReturns a.0.now a.1.0.now r s.1.0.now
 clamp_returns κs a r s = (λ p. (p.0, record { answered = refl; plane_left = p.1 }), λ q. (q.0, q.1.plane_left))
+
+-- bayer_curve(plane, curved)
+abbrev pub CurveReturns : List ℤ → List ℤ → Returned → List ℤ → Type 0
+CurveReturns numbers before r left =
+    let answer = curve_answer numbers (length before) in Exported answer r × CurveLeaves numbers before answer left
+
+pub curve_returns : (κs : Lfts 2) (a : ArgsD curve.signature κs) (r : ResD curve.signature κs)
+    (s : AtExit (ended_of 2 curve_kinds.ps curve_kinds.r) κs)
+    → curve_contract.Learnt κs a r s ↔ CurveReturns a.0.now a.1.0.now r s.1.0.now
+curve_returns κs a r s = (λ p. (p.0, record { answered = refl; plane_left = p.1 }), λ q. (q.0, q.1.plane_left))
 
 -- bayer_read(file, samples)
 abbrev pub ReadReturns : List ℕ → List ℕ → ReadReturned → List ℕ → Type 0

@@ -1,6 +1,7 @@
 -- What a test of the definitions says of a condition in words. Assumes nothing.
-use Rattle.std.specs.Prelude.{◌≡◌, Bool, true, false, cond, ◌&&◌, ℕ, ◌≤◌, leb, eqb}
+use Rattle.std.specs.Prelude.{◌≡◌, Bool, true, false, not, cond, ◌&&◌, ℕ, ◌≤◌, leb, eqb, ℤ, ◌≤ℤ◌}
 use Rattle.std.proofs.Common.{sym, ◌∙◌, true≢false}
+use Rattle.std.specs.Int.Signed.{lt_z, lt_z_yes, lt_z_no, clash_ℤ}
 use Rattle.toolkit.specs.Tests.{by_test, leb_le, leb_yes, eqb_eq, eqb_yes}
 use Rattle.frame.specs.Sites.{side_allowed}
 
@@ -28,6 +29,11 @@ equal_decides m n = both_ways (eqb m n) (eqb_eq m n) eqb_yes
 
 pub at_most_decides : (m n : ℕ) → Decides (m ≤ n) (leb m n)
 at_most_decides m n = both_ways (leb m n) (leb_le m n) leb_yes
+
+-- of whole numbers: v is not below w
+pub not_below_decides : (v w : ℤ) → Decides (w ≤ℤ v) (not (lt_z v w))
+not_below_decides v w = both_ways (not (lt_z v w)) (λ e. lt_z_no (rw e tt))
+    (λ h. by_test (lt_z v w) _ (λ t. absurd (clash_ℤ (lt_z_yes (rw t tt)) h)) (λ t. rw t))
 
 -- "each from 2 to 4,096"
 pub side_decides : (n : ℕ) → Decides ((2 ≤ n) × (n ≤ 4096)) (side_allowed n)

@@ -2,3 +2,4 @@ pub mod WhatCallsLeave
 pub mod Conditions
 pub mod Rows
 pub mod ReadRows
+pub mod ToneCurve

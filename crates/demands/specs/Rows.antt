@@ -1,8 +1,8 @@
--- Document 01, the table "returned: number, place", for develop, write and clamp: row by row with its conditions, in document 02's order.
+-- Document 01, the table "returned: number, place", for develop, write, clamp and curve: row by row with its conditions, in document 02's order.
 -- `ReadRows` has the rows of read. Definitions alone. Assumes nothing.
-use Rattle.std.specs.Prelude.{◌≡◌, ℕ, ◌+◌, ◌*◌, ◌<◌, ◌≤◌, length, get_or}
+use Rattle.std.specs.Prelude.{◌≡◌, ◌⊎◌, List, ℕ, ◌+◌, ◌*◌, ◌<◌, ◌≤◌, ℤ, pos, ◌<ℤ◌, length, get_or}
 use Rattle.frame.specs.Sites.{Frame}
-use Rattle.frame.specs.Calls.{Returned, success}
+use Rattle.frame.specs.Calls.{Returned, success, Clamped}
 
 abbrev pub row : ℕ → ℕ → Returned
 row number place = record { number = number; place = place }
@@ -54,3 +54,13 @@ pub data RowOfDevelop (f : Frame) (b : ℕ) (Allowed : Type 0) : Returned → Ty
 pub data RowOfClamp (Allowed : Type 0) : Returned → Type 0 where
   number_4 : ¬ Allowed → RowOfClamp Allowed (row 4 0)
   done : Allowed → RowOfClamp Allowed success
+
+-- ---- rows 4 and 13: curve
+
+-- document 02, A4, "13 (first position) for a number in the plane below 0 or above 1,023, tested after 4."
+pub data RowOfCurve (numbers : List ℤ) (Allowed : Type 0) : Returned → Type 0 where
+  number_4 : ¬ Allowed → RowOfCurve numbers Allowed (row 4 0)
+  number_13 : Allowed → (k : ℕ) → k < length numbers
+      → (get_or numbers k (pos 0) <ℤ pos 0) ⊎ (pos 1023 <ℤ get_or numbers k (pos 0))
+      → ((m : ℕ) → m < k → Clamped (get_or numbers m (pos 0))) → RowOfCurve numbers Allowed (row 13 k)
+  done : Allowed → ((m : ℕ) → m < length numbers → Clamped (get_or numbers m (pos 0))) → RowOfCurve numbers Allowed success

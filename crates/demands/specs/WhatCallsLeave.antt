@@ -2,10 +2,11 @@
 -- Definitions alone. Assumes nothing.
 use Rattle.std.specs.Prelude.{◌≡◌, List, ℕ, ◌+◌, ◌*◌, ◌≤◌, ℤ, pos, length, get_or}
 use Rattle.frame.specs.Sites.{Frame, Colour, red, green, blue}
-use Rattle.frame.specs.Calls.{success, returned, develop_answer, clamp_answer, clamped, after, Answer, ReadAnswer}
+use Rattle.frame.specs.Calls.{success, returned, develop_answer, clamp_answer, clamped, curve_answer, after, Answer, ReadAnswer}
 use Rattle.frame.specs.declared.Lengths.{Lengths}
 use Rattle.method.specs.Green.{decision_map}
 use Rattle.method.specs.Planes.{plane}
+use Rattle.tone_curve.specs.ToneCurve.{curved}
 use Rattle.frame_file.specs.FrameFile.{read_answer, samples_after_read, write_answer, file_after_write}
 use Rattle.develop.specs.LentBuffers.{lengths, KeptOnRefusal}
 
@@ -69,12 +70,43 @@ number_left {f} call c i j = get_or (plane_of call.left c) (i * f.width + j) (po
 abbrev pub entry_left : {f : Frame} {b : ℕ} → Developed f b → ℕ → ℕ → ℕ
 entry_left {f} call i j = get_or call.left.map (i * f.width + j) 0
 
--- ---- clamp
+-- ---- clamp and curve
 
 -- clamp, lent a plane of numbers and one to fill, answers and leaves the latter so
 pub record ClampLeaves (numbers before : List ℤ) (answer : Answer) (left : List ℤ) : Type 0 where
   pub answered : answer ≡ clamp_answer (length numbers) (length before)
   pub plane_left : left ≡ after answer (clamped numbers) before
+
+-- curve, lent a plane of numbers and one to fill, answers and leaves the latter so
+pub record CurveLeaves (numbers before : List ℤ) (answer : Answer) (left : List ℤ) : Type 0 where
+  pub answered : answer ≡ curve_answer numbers (length before)
+  pub plane_left : left ≡ after answer (curved numbers) before
+
+-- a call of clamp that returned 0, 0 for these numbers
+pub record PlaneClamped (numbers : List ℤ) : Type 0 where
+  pub before : List ℤ
+  pub answer : Answer
+  pub left : List ℤ
+  pub leaves : ClampLeaves numbers before answer left
+  pub succeeds : returned answer ≡ success
+
+-- a call of curve that returned 0, 0 for these numbers
+pub record PlaneCurved (numbers : List ℤ) : Type 0 where
+  pub before : List ℤ
+  pub answer : Answer
+  pub left : List ℤ
+  pub leaves : CurveLeaves numbers before answer left
+  pub succeeds : returned answer ≡ success
+
+-- calls of develop, of clamp for a plane that it left, and of curve for what that left, each of which returned 0, 0
+pub record DevelopedCurved (f : Frame) (b : ℕ) (c : Colour) : Type 0 where
+  pub developed : Developed f b
+  pub clamping : PlaneClamped (plane_of developed.left c)
+  pub curving : PlaneCurved clamping.left
+
+-- the number at (i,j) that curve leaves of them
+abbrev pub curved_left : {f : Frame} {b : ℕ} {c : Colour} → DevelopedCurved f b c → ℕ → ℕ → ℤ
+curved_left {f} calls i j = get_or calls.curving.left (i * f.width + j) (pos 0)
 
 -- ---- read and write
 

@@ -1,17 +1,14 @@
--- The buffers that develop and clamp are lent for so many samples. Assumes nothing.
+-- The buffers that develop is lent for so many samples. Assumes nothing.
 use Rattle.std.specs.Prelude.{◌≡◌, List, ℕ, ◌*◌, ◌-◌, ◌≤◌, ℤ, length, take, drop}
 use Rattle.std.proofs.Common.{◌∙◌, arith, length-take}
 use Rattle.std.proofs.Math.Nat.{sub-zero}
 
-pub record PlanesLent (n : ℕ) (red green blue : List ℤ) (map : List ℕ) (work clamped_red clamped_green clamped_blue : List ℤ) : Type 0 where
+pub record PlanesLent (n : ℕ) (red green blue : List ℤ) (map : List ℕ) (work : List ℤ) : Type 0 where
   pub red_size : length red ≡ n
   pub green_size : length green ≡ n
   pub blue_size : length blue ≡ n
   pub map_size : length map ≡ n
   pub work_size : length work ≡ 4 * n
-  pub clamped_red_size : length clamped_red ≡ n
-  pub clamped_green_size : length clamped_green ≡ n
-  pub clamped_blue_size : length clamped_blue ≡ n
 
 -- the part of a buffer that is lent for n entries
 abbrev pub front : {A : Type 0} → List A → ℕ → List A
@@ -20,17 +17,12 @@ front l n = take (n - 0) (drop 0 l)
 length_front : {A : Type 0} (l : List A) (n m : ℕ) → length l ≡ m → n ≤ m → length (front l n) ≡ n
 length_front l n m e h = rw (sub-zero n) (length-take n l ∙ omega arith)
 
-pub parts_lent : {m : ℕ} {red green blue : List ℤ} {map : List ℕ} {work clamped_red clamped_green clamped_blue : List ℤ} (n : ℕ) → n ≤ m
-    → PlanesLent m red green blue map work clamped_red clamped_green clamped_blue
+pub parts_lent : {m : ℕ} {red green blue : List ℤ} {map : List ℕ} {work : List ℤ} (n : ℕ) → n ≤ m → PlanesLent m red green blue map work
     → PlanesLent n (front red n) (front green n) (front blue n) (front map n) (front work (4 * n))
-    (front clamped_red n) (front clamped_green n) (front clamped_blue n)
 parts_lent {m} n h p = record {
   red_size = length_front _ n m p.red_size h;
   green_size = length_front _ n m p.green_size h;
   blue_size = length_front _ n m p.blue_size h;
   map_size = length_front _ n m p.map_size h;
   work_size = length_front _ (4 * n) (4 * m) p.work_size (omega arith);
-  clamped_red_size = length_front _ n m p.clamped_red_size h;
-  clamped_green_size = length_front _ n m p.clamped_green_size h;
-  clamped_blue_size = length_front _ n m p.clamped_blue_size h;
 }

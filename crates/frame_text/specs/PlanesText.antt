@@ -1,6 +1,6 @@
--- The lines of three clamped planes, and that they are the lines of the frame. Assumes nothing.
-use Rattle.std.specs.Prelude.{◌≡◌, false, ℕ, ◌*◌, ◌/◌, ◌%◌, ◌≤◌, T, ℤ, pos, negsuc, nat_abs, length, get_or}
-use Rattle.std.proofs.Common.{◌∙◌, ap, div-add-mod', arith, Fits, SFits, to_z, of_z, to_z-of_z}
+-- The lines of three clamped planes, and that those of the planes of either tone are the lines of the frame. Assumes nothing.
+use Rattle.std.specs.Prelude.{◌≡◌, refl, false, ℕ, ◌*◌, ◌/◌, ◌%◌, ◌≤◌, T, ℤ, pos, negsuc, nat_abs, length, get_or}
+use Rattle.std.proofs.Common.{◌∙◌, ap, subst, div-add-mod', arith, Fits, SFits, to_z, of_z, to_z-of_z}
 use mathlib.Core.List.{List, [], ◌∷◌, ◌++◌}
 use Rattle.std.proofs.lemmas.List.{length-map}
 use Rattle.std.proofs.Math.ListN.{get_or-map}
@@ -12,7 +12,11 @@ use Rattle.frame.specs.Sites.{Frame, Colour, red, green, blue, highest_sample}
 use Rattle.frame.specs.Calls.{held, clamped}
 use Rattle.method.specs.Planes.{plane}
 use Rattle.frame_file.specs.Lists.{joined, joined_cong}
-use Rattle.printing.specs.Printing.{black_level, numbers_line, heading, clamped_at, site_text, frame_text}
+use Rattle.tone_curve.specs.ToneCurve.{entry_count, may_be_entry, first_passing, curve_entry, curved_number, curved}
+use Rattle.tone_curve.proofs.OneCurve.{entry_at_most}
+use Rattle.printing.specs.declared.Tone.{Tone}
+use Rattle.printing.specs.declared.Tone.TheVariants.{Clamped, Curved}
+use Rattle.printing.specs.Printing.{black_level, numbers_line, heading, toned, toned_at, site_text, frame_text}
 
 -- entry k of a clamped plane, as a natural number
 abbrev pub entry_of_clamped : List ℤ → ℕ → ℕ
@@ -67,29 +71,58 @@ pub cast_number : (z : ℤ) → SFits w32 z → T (non_neg z) → nat_abs z ≤ 
     → T (non_neg (to_z w32 (of_z w32 z))) × Fits w64 (nat_abs (to_z w32 (of_z w32 z)))
 cast_number z f low high = rw (to_z-of_z f) (low, record { fits = omega arith })
 
--- ---- the planes that develop and clamp leave
+-- ---- numbers through the curve
+
+curved_zero : curved_number (pos 0) ≡ pos 0
+unfolding curved_number curve_entry entry_count may_be_entry first_passing
+curved_zero = refl
+
+get_curved : (l : List ℤ) (k : ℕ) → get_or (curved l) k (pos 0) ≡ curved_number (get_or l k (pos 0))
+unfolding curved
+get_curved l k =
+    subst (λ (d : ℤ). get_or (curved l) k d ≡ curved_number (get_or l k (pos 0))) curved_zero (get_or-map curved_number l k (pos 0))
+
+curved_clamped : (l : List ℤ) → ClampedNumbers l → ClampedNumbers (curved l)
+unfolding curved_number
+curved_clamped l c = record {
+  low = λ k. rw (get_curved l k) tt;
+  high = λ k. rw (get_curved l k) (entry_at_most (entry_of_clamped l k) (c.high k));
+}
+
+pub toned_clamped : (tone : Tone) (l : List ℤ) → ClampedNumbers (toned tone l)
+unfolding toned
+toned_clamped Clamped l = clamped_clamped l
+toned_clamped Curved l = curved_clamped (clamped l) (clamped_clamped l)
+
+-- ---- the planes that develop leaves, with the tone
 
 pub length_clamped_list : (l : List ℤ) → length (clamped l) ≡ length l
 unfolding clamped
 length_clamped_list l = length-map l held
 
+pub length_toned_list : (tone : Tone) (l : List ℤ) → length (toned tone l) ≡ length l
+unfolding toned curved
+length_toned_list Clamped l = length_clamped_list l
+length_toned_list Curved l = length-map (clamped l) curved_number ∙ length_clamped_list l
+
 pub length_plane : (f : Frame) (c : Colour) → length (plane f black_level c) ≡ f.height * f.width
 unfolding plane
 length_plane f c = length_raster f.height f.width _
 
-pub length_clamped : (f : Frame) (c : Colour) → length (clamped (plane f black_level c)) ≡ f.height * f.width
-length_clamped f c = length_clamped_list (plane f black_level c) ∙ length_plane f c
+pub length_toned : (tone : Tone) (f : Frame) (c : Colour) → length (toned tone (plane f black_level c)) ≡ f.height * f.width
+length_toned tone f c = length_toned_list tone (plane f black_level c) ∙ length_plane f c
 
-module _ (f : Frame) where
+module _ (tone : Tone) (f : Frame) where
+  abbrev toned_plane : Colour → List ℤ
+  toned_plane c = toned tone (plane f black_level c)
+
   same_line : (k : ℕ)
-      → planes_line f.width (clamped (plane f black_level red)) (clamped (plane f black_level green)) (clamped (plane f black_level blue)) k
-      ≡ site_text f (k / f.width) (k % f.width)
-  unfolding planes_line site_text clamped_at
+      → planes_line f.width (toned_plane red) (toned_plane green) (toned_plane blue) k ≡ site_text tone f (k / f.width) (k % f.width)
+  unfolding planes_line site_text toned_at
   same_line k = rw (div-add-mod' k f.width)
 
-  pub frame_text_planes :
-      text_of_planes f.width (clamped (plane f black_level red)) (clamped (plane f black_level green)) (clamped (plane f black_level blue)) ≡ frame_text f
+  pub frame_text_planes : text_of_planes f.width (toned_plane red) (toned_plane green) (toned_plane blue) ≡ frame_text tone f
   unfolding text_of_planes frame_text
   frame_text_planes =
-      rw (length_clamped f red)
+      rw (length_toned tone f red)
       (ap (λ (l : List ℕ). heading ++ l) (joined_cong (f.height * f.width) _ _ (λ k h. same_line k)))

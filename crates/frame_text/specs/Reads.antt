@@ -13,6 +13,7 @@ use Rattle.frame.specs.Calls.{develop_answer}
 use Rattle.frame_file.specs.FrameFile.{Reading, accepted, refused, reading, shape_of, sample_count, block_count, stored_frame, answer_of, samples_of, read_answer, samples_after_read}
 use Rattle.frame_file.proofs.BlockSamples.{length_stored_samples}
 use Rattle.frame_file.proofs.ReadTests.{header_of_accepted, later_blocks_accepted}
+use Rattle.printing.specs.declared.Tone.{Tone}
 use Rattle.printing.specs.Printing.{black_level, lent, text_of_developed, refusal_text, text_of, printed}
 
 -- the samples of an accepted frame are W·H, and there is room for them
@@ -61,26 +62,27 @@ refusal_read file room why a = refused_by why (reading file room) (sym a)
 
 -- ---- what is printed in each case
 
-pub long_printed : (file : List ℕ) → 2048 < length file → refusal_text BufferLength ≡ printed file
-unfolding printed
-long_printed file h = rw (ltb_yes {m = 2048} {n = length file} h)
+module _ (tone : Tone) (file : List ℕ) where
+  pub long_printed : 2048 < length file → refusal_text BufferLength ≡ printed tone file
+  unfolding printed
+  long_printed h = rw (ltb_yes {m = 2048} {n = length file} h)
 
-pub short_printed : (file : List ℕ) → length file ≤ 2048 → text_of (reading file 1024) ≡ printed file
-unfolding printed
-short_printed file h = rw (ltb_no {m = 2048} {n = length file} h)
+  pub short_printed : length file ≤ 2048 → text_of tone (reading file 1024) ≡ printed tone file
+  unfolding printed
+  short_printed h = rw (ltb_no {m = 2048} {n = length file} h)
 
-pub refusal_printed : (file : List ℕ) (why : Refusal) → Err why ≡ read_answer file 1024 → refusal_text why ≡ text_of (reading file 1024)
-refusal_printed file why a = rw (refusal_read file 1024 why a)
+  pub refusal_printed : (why : Refusal) → Err why ≡ read_answer file 1024 → refusal_text why ≡ text_of tone (reading file 1024)
+  refusal_printed why a = rw (refusal_read file 1024 why a)
 
 module _ (file before : List ℕ) (size : length before ≡ 1024) where
   pub few : (shape : Shape) → Ok shape ≡ read_answer file (length before) → shape.height * shape.width ≤ 1024
   few shape a = omega (arith, (frame_read file before shape a).enough)
 
-  pub frame_printed : (shape : Shape) (samples : List ℕ) → Ok shape ≡ read_answer file (length before)
+  pub frame_printed : (tone : Tone) (shape : Shape) (samples : List ℕ) → Ok shape ≡ read_answer file (length before)
       → samples ≡ samples_after_read file before
-      → text_of_developed (frame shape (take (shape.height * shape.width - 0) (drop 0 samples)))
+      → text_of_developed tone (frame shape (take (shape.height * shape.width - 0) (drop 0 samples)))
       (develop_answer (frame shape (take (shape.height * shape.width - 0) (drop 0 samples))) black_level
       (lent (frame shape (take (shape.height * shape.width - 0) (drop 0 samples)))))
-      ≡ text_of (reading file 1024)
-  frame_printed shape samples a left =
+      ≡ text_of tone (reading file 1024)
+  frame_printed tone shape samples a left =
       rw (sub-zero (shape.height * shape.width), left, ← size, (frame_read file before shape a).found)

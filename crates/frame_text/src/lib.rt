@@ -3,14 +3,15 @@
 
 ghost use Rattle.std.specs.Prelude.{◌≡◌, ◌++◌, ◌+◌, ◌*◌, ◌<◌, ◌≤◌, length};
 ghost use Rattle.frame.specs.Sites.{frame as frame_of};
-ghost use Rattle.frame.specs.Calls.{develop_answer, clamped};
+ghost use Rattle.frame.specs.Calls.{develop_answer};
 ghost use Rattle.frame_file.specs.Lists.{joined};
 ghost use Rattle.frame_file.specs.FrameFile.{reading};
-ghost use Rattle.printing.specs.Printing.{black_level, lent, text_of_developed, text_of, printed};
+ghost use Rattle.printing.specs.Printing.{black_level, lent, toned, text_of_developed, text_of, printed};
 ghost use Rattle.frame_text.specs.PlanesText.{entry_of_clamped, planes_line, text_of_planes, ClampedNumbers};
 ghost use Rattle.frame_text.specs.Composes.{Composes};
 
 use frame::{Refusal, Shape};
+use printing::Tone;
 use text::{ROOM, Text};
 
 // Three planes of equal length, of rows of so many columns.
@@ -64,40 +65,25 @@ fn planes_text(planes: Planes<'_>) -> Text
     text
 }
 
-// A plane of at most 1,024 numbers, clamped.
-#[tactic(auto, using(crate::specs::Composing::clamp_allowed))]
-fn clamped_plane<'a>(plane: &[i32], filled: &'a mut [i32; 1024]) -> &'a [i32]
-    requires { length plane.now ≤ 1024 }
-    ensures { result.now ≡ clamped plane.now }
+// Gives the tone to a plane of at most 1,024 numbers.
+#[tactic(auto, using(crate::specs::Composing::clamp_allowed, crate::specs::Composing::curve_allowed), unfolding(printing::specs::Printing::toned))]
+fn give_tone(plane: &mut [i32], tone: Tone)
+    requires { length plane.old ≤ 1024 }
+    ensures { plane.new ≡ toned tone plane.old }
 {
-    let filled = &mut filled[..plane.len()];
-    clamp::clamp(plane, filled).unwrap();
-    filled
+    let mut clamped = [0; 1024];
+    let clamped = &mut clamped[..plane.len()];
+    clamp::clamp(plane, clamped).unwrap();
+    match tone {
+        Tone::Clamped => plane.copy_from_slice(clamped),
+        Tone::Curved => curve::curve(clamped, plane).unwrap(),
+    }
 }
 
-// The text of three planes, clamped.
-#[tactic(auto, using(crate::specs::PlanesText::clamped_clamped, crate::specs::PlanesText::length_clamped_list))]
-fn clamped_text(planes: Planes<'_>) -> Text
-    requires { length planes.red.now ≤ 1024 }
-    ensures { result.bytes ≡ text_of_planes planes.entry.width (clamped planes.entry.red.now)
-        (clamped planes.entry.green.now) (clamped planes.entry.blue.now) }
-{
-    let mut reds = [0; 1024];
-    let mut greens = [0; 1024];
-    let mut blues = [0; 1024];
-    let clamped = Planes {
-        width: planes.width,
-        red: clamped_plane(planes.red, &mut reds),
-        green: clamped_plane(planes.green, &mut greens),
-        blue: clamped_plane(planes.blue, &mut blues),
-    };
-    planes_text(clamped)
-}
-
-// The text of a frame of at most 1,024 samples: developed at black level 0, clamped, and printed; or develop's refusal.
-fn developed_text(shape: Shape, mosaic: &[u16]) -> Result<Text, Refusal>
+// The text of a frame of at most 1,024 samples: developed at black level 0, given the tone, and printed; or develop's refusal.
+fn developed_text(shape: Shape, mosaic: &[u16], tone: Tone) -> Result<Text, Refusal>
     requires { shape.height * shape.width ≤ 1024 }
-    ensures { Composes result (text_of_developed (frame_of shape mosaic.now)
+    ensures { Composes result (text_of_developed tone (frame_of shape mosaic.now)
         (develop_answer (frame_of shape mosaic.now) black_level (lent (frame_of shape mosaic.now)))) }
 {
     let count = shape.height * shape.width;
@@ -119,7 +105,10 @@ fn developed_text(shape: Shape, mosaic: &[u16]) -> Result<Text, Refusal>
         &mut map[..count],
         &mut work[..4 * count],
     )?;
-    Ok(clamped_text(Planes {
+    give_tone(red, tone);
+    give_tone(green, tone);
+    give_tone(blue, tone);
+    Ok(planes_text(Planes {
         width: shape.width,
         red,
         green,
@@ -128,23 +117,23 @@ fn developed_text(shape: Shape, mosaic: &[u16]) -> Result<Text, Refusal>
 }
 
 // The text of what read finds in a file, with room for 1,024 samples; or the refusal.
-fn file_text(file: &[u8]) -> Result<Text, Refusal>
-    ensures { Composes result (text_of (reading file.now 1024)) }
+fn file_text(file: &[u8], tone: Tone) -> Result<Text, Refusal>
+    ensures { Composes result (text_of tone (reading file.now 1024)) }
 {
     let mut samples = [0; 1024];
     let shape = reader::read(file, &mut samples)?;
-    developed_text(shape, &samples[..shape.height * shape.width])
+    developed_text(shape, &samples[..shape.height * shape.width], tone)
 }
 
-// The text that the program prints of a file.
+// The text that the program of a tone prints of a file.
 #[tactic(auto, using(crate::specs::Reads::long_printed, crate::specs::Reads::short_printed))]
-pub fn compose(file: &[u8]) -> Text
-    ensures { result.bytes ≡ printed file.now }
+pub fn compose(file: &[u8], tone: Tone) -> Text
+    ensures { result.bytes ≡ printed tone file.now }
 {
     if file.len() > 2048 {
         return text::refusal(Refusal::BufferLength);
     }
-    match file_text(file) {
+    match file_text(file, tone) {
         Ok(text) => text,
         Err(why) => text::refusal(why),
     }

@@ -10,6 +10,7 @@ use Rattle.frame_file.specs.Lists.{Below}
 use Rattle.frame_file.specs.FrameFile.{block_count, file_length, reading, accepted}
 use Rattle.frame_file.proofs.WrittenFile.{length_written_file}
 use Rattle.frame_file.proofs.AcceptedExactlyWhenWritten.{WrittenFrom, accepted_is_written}
+use Rattle.printing.specs.declared.Tone.{Tone}
 use Rattle.printing.specs.Printing.{black_level, lent, frame_text, printed}
 
 pub admitted_developed : (f : Frame) → Admitted f → develop_answer f black_level (lent f) ≡ no_refusal
@@ -20,8 +21,9 @@ accepted_short : (file : List ℕ) (f : Frame) → WrittenFrom f file 1024 → l
 unfolding file_length block_count
 accepted_short file f w = rw w.written (omega (arith, length_written_file f, w.enough))
 
-pub accepted_printed : (file : List ℕ) → Below 256 file → (f : Frame) → reading file 1024 ≡ accepted f → printed file ≡ frame_text f
+pub accepted_printed : (tone : Tone) (file : List ℕ) → Below 256 file → (f : Frame) → reading file 1024 ≡ accepted f
+    → printed tone file ≡ frame_text tone f
 unfolding printed
-accepted_printed file bytes f e =
+accepted_printed tone file bytes f e =
     let w = accepted_is_written file bytes 1024 f e in
     rw (ltb_no {m = 2048} {n = length file} (accepted_short file f w), e, admitted_developed f w.admitted)

@@ -1,13 +1,17 @@
--- Document 01, "The frame file", its last paragraph: what the program prints. Definitions alone. Assumes nothing.
-use Rattle.std.specs.Prelude.{cond, List, [], ◌∷◌, ◌++◌, ℕ, zero, suc, ◌+◌, ◌*◌, ◌/◌, ◌%◌, ltb, pos, nat_abs, length, get_or, Err, Ok}
+-- Document 01, "The frame file", its last paragraph: what the program prints; and document 02, A4: what the second program prints.
+-- Definitions alone. Assumes nothing.
+use Rattle.std.specs.Prelude.{cond, List, [], ◌∷◌, ◌++◌, ℕ, zero, suc, ◌+◌, ◌*◌, ◌/◌, ◌%◌, ltb, ℤ, pos, nat_abs, length, get_or, Err, Ok}
 use Rattle.frame.specs.declared.Refusal.{Refusal}
 use Rattle.frame.specs.declared.Refusal.TheVariants.{BufferLength}
 use Rattle.frame.specs.Sites.{Frame, Colour, red, green, blue}
 use Rattle.frame.specs.Calls.{least_lengths, number_and_place, clamped, develop_answer, Answer}
 use Rattle.frame.specs.declared.Lengths.{Lengths}
 use Rattle.method.specs.Planes.{plane}
+use Rattle.tone_curve.specs.ToneCurve.{curved}
 use Rattle.frame_file.specs.Lists.{joined}
 use Rattle.frame_file.specs.FrameFile as File
+use Rattle.printing.specs.declared.Tone.{Tone}
+use Rattle.printing.specs.declared.Tone.TheVariants.{Clamped, Curved}
 
 -- ---- text, as ASCII bytes
 
@@ -51,32 +55,38 @@ refusal_text why = refused_word ++ (space ∷ numbers_line ((number_and_place wh
 abbrev pub black_level : ℕ
 black_level = 0
 
--- entry i·W + j of the plane of the colour c that develop leaves, as clamp leaves it
-unfoldable pub clamped_at : Frame → Colour → ℕ → ℕ → ℕ
-clamped_at f c i j = nat_abs (get_or (clamped (plane f black_level c)) (i * f.width + j) (pos 0))
+-- "develops, clamps and prints;" document 02, A4, "a program prints a developed frame through it in document 01's lines.": a plane that
+-- develop leaves, as it is printed
+unfoldable pub toned : Tone → List ℤ → List ℤ
+toned Clamped plane = clamped plane
+toned Curved plane = curved (clamped plane)
 
--- "it prints row, column and colours": the line of the site (i,j), its colours clamped
-unfoldable pub site_text : Frame → ℕ → ℕ → List ℕ
-site_text f i j = numbers_line (i ∷ j ∷ clamped_at f red i j ∷ clamped_at f green i j ∷ clamped_at f blue i j ∷ [])
+-- entry i·W + j of the plane of the colour c that develop leaves, as it is printed
+unfoldable pub toned_at : Tone → Frame → Colour → ℕ → ℕ → ℕ
+toned_at tone f c i j = nat_abs (get_or (toned tone (plane f black_level c)) (i * f.width + j) (pos 0))
 
-unfoldable pub frame_text : Frame → List ℕ
-frame_text f = heading ++ joined (f.height * f.width) (λ k. site_text f (k / f.width) (k % f.width))
+-- "it prints row, column and colours": the line of the site (i,j)
+unfoldable pub site_text : Tone → Frame → ℕ → ℕ → List ℕ
+site_text tone f i j = numbers_line (i ∷ j ∷ toned_at tone f red i j ∷ toned_at tone f green i j ∷ toned_at tone f blue i j ∷ [])
+
+unfoldable pub frame_text : Tone → Frame → List ℕ
+frame_text tone f = heading ++ joined (f.height * f.width) (λ k. site_text tone f (k / f.width) (k % f.width))
 
 -- the lengths of the planes and of the work buffer that the program lends to develop
 abbrev pub lent : Frame → Lengths
 lent f = least_lengths f
 
 -- what is printed by develop's answer
-abbrev pub text_of_developed : Frame → Answer → List ℕ
-text_of_developed f (Ok _) = frame_text f
-text_of_developed f (Err why) = refusal_text why
+abbrev pub text_of_developed : Tone → Frame → Answer → List ℕ
+text_of_developed tone f (Ok _) = frame_text tone f
+text_of_developed tone f (Err why) = refusal_text why
 
 -- what is printed by what read finds
-abbrev pub text_of : File.Reading → List ℕ
-text_of (File.accepted f) = text_of_developed f (develop_answer f black_level (lent f))
-text_of (File.refused why) = refusal_text why
+abbrev pub text_of : Tone → File.Reading → List ℕ
+text_of tone (File.accepted f) = text_of_developed tone f (develop_answer f black_level (lent f))
+text_of tone (File.refused why) = refusal_text why
 
 -- "The program reads one file from standard input into 2,048 bytes (a longer one prints `refused 4 0` before any other test) and 1,024
 -- samples (read's own 4), develops, clamps and prints;"
-unfoldable pub printed : List ℕ → List ℕ
-printed file = cond (ltb 2048 (length file)) (refusal_text BufferLength) (text_of (File.reading file 1024))
+unfoldable pub printed : Tone → List ℕ → List ℕ
+printed tone file = cond (ltb 2048 (length file)) (refusal_text BufferLength) (text_of tone (File.reading file 1024))

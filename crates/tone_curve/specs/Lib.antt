@@ -1,2 +1,1 @@
 pub mod ToneCurve
-pub mod OneCurve

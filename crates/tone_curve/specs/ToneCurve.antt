@@ -1,5 +1,6 @@
 -- Document 02, A4: the square-root tone curve. Definitions alone; that just one number may be each entry is in `OneCurve`. Assumes nothing.
-use Rattle.std.specs.Prelude.{Bool, cond, ◌&&◌, List, map, ℕ, zero, suc, ◌*◌, eqb, ℤ, pos, negsuc, nat_abs, ◌+ℤ◌, ◌*ℤ◌}
+use Rattle.std.specs.Prelude.{◌≡◌, Bool, true, cond, ◌&&◌, List, map, ℕ, zero, suc, ◌*◌, ◌<◌, eqb, ℤ, pos, negsuc, nat_abs, ◌+ℤ◌, ◌*ℤ◌, length, get_or}
+use Rattle.toolkit.specs.Tables.{tabulate}
 use Rattle.std.specs.Int.Signed.{lt_z}
 
 -- "a curve of 1,024 entries"
@@ -27,6 +28,15 @@ first_passing test (suc more) t = cond (test t) t (first_passing test more (suc 
 -- entry v of the curve: the first number from 0 to 1,023 that may be it
 unfoldable pub curve_entry : ℕ → ℕ
 curve_entry v = first_passing (λ t. may_be_entry v (pos t)) entry_count 0
+
+-- a table of 1,024 whole numbers by the rule
+pub record IsCurve (table : List ℤ) : Type 0 where
+  pub entries : length table ≡ entry_count
+  pub follows : (v : ℕ) → v < entry_count → may_be_entry v (get_or table v (pos 0)) ≡ true
+
+-- the curve as a table
+unfoldable pub curve_table : List ℤ
+curve_table = tabulate entry_count (λ v. pos (curve_entry v))
 
 -- "A call applies it to a clamped plane": number by number
 unfoldable pub curved_number : ℤ → ℤ

@@ -80,3 +80,7 @@ pub fn develop(
 pub fn clamp(plane: &[i32], clamped: &mut [i32]) -> Result<(), Refusal> {
     told(bayer::clamp(plane, clamped))
 }
+
+pub fn curve(plane: &[i32], curved: &mut [i32]) -> Result<(), Refusal> {
+    told(bayer::curve(plane, curved))
+}

@@ -4,7 +4,7 @@ mod both;
 #[path = "../../reference/tests/common/mod.rs"]
 mod common;
 
-use both::clamp::both_clamp;
+use both::plane::both_clamp;
 use common::Generator;
 use reference::calls::refused;
 

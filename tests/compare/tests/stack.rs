@@ -34,6 +34,7 @@ fn calls_take_no_more_stack_than_the_header_says() {
             assert_eq!(answer, Ok(()));
         });
         let clamp = depth(&mut || assert_eq!(compare::clamp(&red, &mut green), Ok(())));
+        let curve = depth(&mut || assert_eq!(compare::curve(&green, &mut blue), Ok(())));
         let read = depth(&mut || assert!(compare::read(&file, &mut samples).is_ok()));
         let write = depth(&mut || {
             assert_eq!(
@@ -42,9 +43,11 @@ fn calls_take_no_more_stack_than_the_header_says() {
             );
         });
         println!(
-            "{width} x {height}: develop {develop}, clamp {clamp}, read {read}, write {write}"
+            "{width} x {height}: develop {develop}, clamp {clamp}, curve {curve}, read {read}, write {write}"
         );
-        deepest = deepest.max(develop).max(clamp).max(read).max(write);
+        for bytes in [develop, clamp, curve, read, write] {
+            deepest = deepest.max(bytes);
+        }
     }
     let promised = promised();
     assert!(deepest <= promised, "{deepest} of {promised} bytes");

@@ -1,6 +1,7 @@
 //! Document 01, "Calls and returns": develop and clamp, with every refusal. From document 02 develop has the map of A1, and the black
-//! level of A2 with its two refusals.
+//! level of A2 with its two refusals; curve is the call of A4.
 
+use crate::curve::entry;
 use crate::planes::planes;
 use crate::sites::Frame;
 
@@ -68,6 +69,15 @@ fn test_darkness(mosaic: &[u16], black: usize) -> Result<(), Refusal> {
     }
 }
 
+/// Refusal 13 of curve: the first number below 0 or above 1,023.
+fn test_clamped(plane: &[i32]) -> Result<(), Refusal> {
+    let unclamped = |&number: &i32| number < 0 || number > i32::from(GREATEST_SAMPLE);
+    match plane.iter().position(unclamped) {
+        Some(place) => refused(13, place),
+        None => Ok(()),
+    }
+}
+
 /// Fills the three planes, at the black level, and the decision map from the mosaic. The work buffer is only measured.
 #[allow(clippy::too_many_arguments)] // the document lends all of these
 pub fn develop(
@@ -119,6 +129,18 @@ pub fn clamp(plane: &[i32], out: &mut [i32]) -> Result<(), Refusal> {
     }
     for (held, &value) in out.iter_mut().zip(plane) {
         *held = value.clamp(0, i32::from(GREATEST_SAMPLE));
+    }
+    Ok(())
+}
+
+/// Fills `curved` with the curve's entry for each number of a clamped plane.
+pub fn curve(plane: &[i32], curved: &mut [i32]) -> Result<(), Refusal> {
+    if curved.len() != plane.len() {
+        return refused(4, 0);
+    }
+    test_clamped(plane)?;
+    for (filled, &number) in curved.iter_mut().zip(plane) {
+        *filled = entry(i64::from(number)) as i32;
     }
     Ok(())
 }

@@ -4,11 +4,12 @@ mod common;
 
 use common::{set_check, written};
 use reference::frame_file::{read, Description};
-use reference::program::text;
+use reference::program::{curve_text, text};
 use reference::sites::Frame;
 
 const FILE: &[u8] = include_bytes!("../../../examples/glaze.bayr");
 const TEXT: &str = include_str!("../../../examples/glaze.txt");
+const CURVE_TEXT: &str = include_str!("../../../examples/glaze_curve.txt");
 
 #[test]
 fn the_file_is_what_the_writer_makes() {
@@ -58,4 +59,18 @@ row col red green blue
 ";
     assert_eq!(TEXT, document);
     assert_eq!(text(FILE), document);
+}
+
+/// Document 02, A4: (2·320 − 1)² = 408,321 < 4,092·100 = 409,200 < 410,881 = (2·320 + 1)², and so on.
+#[test]
+fn the_curve_program_prints_its_text() {
+    let expected = "\
+row col red green blue
+0 0 320 228 452
+0 1 303 202 441
+1 0 337 250 465
+1 1 320 228 452
+";
+    assert_eq!(CURVE_TEXT, expected);
+    assert_eq!(curve_text(FILE), expected);
 }

@@ -1,31 +1,40 @@
-//! The printing program: its text, its room, and the binary itself.
+//! The printing program and the curve program: their texts, their room, and the binaries themselves.
 
 mod common;
 
 use common::{developed, frame, frame_of_sides, set_check, written, Generator, Kind, KINDS};
-use reference::program::text;
+use reference::curve::entry;
+use reference::program::{curve_text, text};
 use reference::sites::Frame;
 use std::io::Write;
 use std::process::{Command, Stdio};
 
-/// The text of an accepted frame, by its planes.
-fn expected_text(frame: &Frame) -> String {
+/// The text of an accepted frame, by its planes and what is printed for a clamped number.
+fn expected(frame: &Frame, shown: fn(i32) -> i32) -> String {
     let planes = developed(frame);
     let mut lines = vec!["row col red green blue".to_string()];
     for row in 0..frame.height {
         for column in 0..frame.width {
             let site = row * frame.width + column;
             let numbers = [planes.red[site], planes.green[site], planes.blue[site]];
-            let held = numbers.map(|number| number.clamp(0, 1023).to_string());
-            lines.push(format!("{row} {column} {}", held.join(" ")));
+            let shown = numbers.map(|number| shown(number.clamp(0, 1023)).to_string());
+            lines.push(format!("{row} {column} {}", shown.join(" ")));
         }
     }
     lines.join("\n") + "\n"
 }
 
-/// What the binary prints for the bytes of standard input.
-fn printed(input: &[u8]) -> String {
-    let mut program = Command::new(env!("CARGO_BIN_EXE_develop"))
+fn expected_text(frame: &Frame) -> String {
+    expected(frame, |number| number)
+}
+
+fn expected_curve_text(frame: &Frame) -> String {
+    expected(frame, |number| entry(number.into()) as i32)
+}
+
+/// What a binary prints for the bytes of standard input.
+fn printed(binary: &str, input: &[u8]) -> String {
+    let mut program = Command::new(binary)
         .stdin(Stdio::piped())
         .stdout(Stdio::piped())
         .spawn()
@@ -46,6 +55,8 @@ fn texts_of_accepted_frames() {
         let numbers = [planes.red, planes.green, planes.blue].concat();
         clamped += usize::from(numbers.iter().any(|number| !(0..=1023).contains(number)));
         assert_eq!(text(&written(&frame)), expected_text(&frame));
+        let curved = curve_text(&written(&frame));
+        assert_eq!(curved, expected_curve_text(&frame));
     }
     assert!(clamped > 50, "{clamped}");
 }
@@ -56,6 +67,8 @@ fn room_for_1024_samples() {
     for (width, height) in [(32, 32), (2, 512), (512, 2), (31, 33)] {
         let frame = frame_of_sides(&mut generator, Kind::Random, width, height);
         assert_eq!(text(&written(&frame)), expected_text(&frame));
+        let curved = curve_text(&written(&frame));
+        assert_eq!(curved, expected_curve_text(&frame));
     }
     // 1,025 to 1,200 samples fit 2,048 bytes but not 1,024 samples
     for (width, height) in [(25, 41), (41, 25), (2, 513), (30, 40), (600, 2)] {
@@ -108,14 +121,34 @@ fn texts_of_refusals() {
     assert_eq!(text(&large), "refused 4 0\n");
 }
 
+/// A refused file has one text by both programs.
 #[test]
-fn the_binary_prints_the_text() {
+fn refusals_by_the_curve_program() {
+    let mut generator = Generator::new(95);
+    for kind in KINDS {
+        let mut file = written(&frame(&mut generator, kind, 30));
+        file[generator.size(0, 511)] ^= 1;
+        let refused = text(&file);
+        assert!(refused.starts_with("refused "), "{refused}");
+        assert_eq!(curve_text(&file), refused);
+    }
+    assert_eq!(curve_text(&[]), "refused 6 0\n");
+    assert_eq!(curve_text(&[0; 2_049]), "refused 4 0\n");
+}
+
+#[test]
+fn the_binaries_print_the_texts() {
     let mut generator = Generator::new(94);
+    let develop = env!("CARGO_BIN_EXE_develop");
+    let curve = env!("CARGO_BIN_EXE_curve");
     for kind in KINDS {
         let file = written(&frame(&mut generator, kind, 9));
-        assert_eq!(printed(&file), text(&file));
-        assert_eq!(printed(&file[..700]), "refused 6 0\n");
+        assert_eq!(printed(develop, &file), text(&file));
+        assert_eq!(printed(curve, &file), curve_text(&file));
     }
-    assert_eq!(printed(&[]), "refused 6 0\n");
-    assert_eq!(printed(&[0; 3_000]), "refused 4 0\n");
+    for binary in [develop, curve] {
+        assert_eq!(printed(binary, &[]), "refused 6 0\n");
+        assert_eq!(printed(binary, &[0; 700]), "refused 6 0\n");
+        assert_eq!(printed(binary, &[0; 3_000]), "refused 4 0\n");
+    }
 }

@@ -18,6 +18,7 @@ use std::ffi::OsString;
 
 const USAGE: &str = "\
 usage: bayer-tool show FRAME PICTURE                       a frame file, developed, as .ppm or .png
+       bayer-tool show --curve FRAME PICTURE               the same through the tone curve, as display panels show it
        bayer-tool show --map FRAME PICTURE                 how the green of each site was decided, one colour for each code
        bayer-tool frame IMAGE FRAME --phase P [--unscaled]  a PGM, or a PPM masked to the mosaic, as a frame file
        bayer-tool facts FRAME                              size, phase, range, and how many sites tie

@@ -1,7 +1,7 @@
 //! Calls given to both implementations; here those of develop.
 #![allow(dead_code)] // each test file uses a part
 
-pub mod clamp;
+pub mod plane;
 pub mod read;
 pub mod write;
 

@@ -1,7 +1,8 @@
-//! Writes the program's cases into the folder named as argument: NAME.bayr, and NAME.txt with the text that the program prints of it.
+//! Writes the programs' cases into the folder named as argument: NAME.bayr, and NAME.txt with the text that the printing program prints of
+//! it. The curve program prints the same of a file that is refused; of the others NAME.curve.txt has what it prints.
 
 use reference::frame_file::{block_count, check, write, BLOCK};
-use reference::program::text;
+use reference::program::{curve_text, text};
 use std::path::Path;
 use std::{env, fs, io};
 
@@ -125,9 +126,14 @@ fn frames() -> Vec<(String, Vec<u8>)> {
 fn main() -> io::Result<()> {
     let folder = env::args().nth(1).expect("the folder to write into");
     fs::create_dir_all(&folder)?;
-    for (name, file) in refusals().into_iter().chain(frames()) {
-        fs::write(Path::new(&folder).join(format!("{name}.bayr")), &file)?;
-        fs::write(Path::new(&folder).join(format!("{name}.txt")), text(&file))?;
+    let save = |name: String, bytes: &[u8]| fs::write(Path::new(&folder).join(name), bytes);
+    let accepted = frames();
+    for (name, file) in refusals().iter().chain(&accepted) {
+        save(format!("{name}.bayr"), file)?;
+        save(format!("{name}.txt"), text(file).as_bytes())?;
+    }
+    for (name, file) in &accepted {
+        save(format!("{name}.curve.txt"), curve_text(file).as_bytes())?;
     }
     Ok(())
 }

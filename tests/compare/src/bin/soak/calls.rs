@@ -1,6 +1,6 @@
 //! One random or damaged call of an export.
 
-use crate::both::clamp::both_clamp;
+use crate::both::plane::{both_clamp, both_curve, clamped, UNCLAMPED};
 use crate::both::read::{both_read, damage};
 use crate::both::write::{both_write, disturb_frame, file_length};
 use crate::both::{both_develop, disturb};
@@ -17,14 +17,16 @@ pub enum Export {
     Read,
     Write,
     Clamp,
+    Curve,
     Text,
 }
 
-pub const EXPORTS: [Export; 5] = [
+pub const EXPORTS: [Export; 6] = [
     Export::Develop,
     Export::Read,
     Export::Write,
     Export::Clamp,
+    Export::Curve,
     Export::Text,
 ];
 
@@ -35,6 +37,7 @@ impl Export {
             Export::Read => "read",
             Export::Write => "write",
             Export::Clamp => "clamp",
+            Export::Curve => "curve",
             Export::Text => "text",
         }
     }
@@ -46,6 +49,7 @@ impl Export {
             Export::Read => &[0, 4, 6, 7, 8, 9, 10],
             Export::Write => &[0, 1, 2, 3, 4, 5],
             Export::Clamp => &[0, 4],
+            Export::Curve => &[0, 4, 13],
             Export::Text => &[0],
         }
     }
@@ -59,7 +63,8 @@ pub fn one(seed: u64, call: u64) -> (Export, usize) {
         0..=29 => (Export::Develop, develop(generator)),
         30..=59 => (Export::Read, read(generator)),
         60..=84 => (Export::Write, write(generator)),
-        85..=97 => (Export::Clamp, clamp(generator)),
+        85..=90 => (Export::Clamp, clamp(generator)),
+        91..=97 => (Export::Curve, curve(generator)),
         _ => (Export::Text, text(generator)),
     };
     (export, number as usize)
@@ -129,11 +134,31 @@ fn clamp(generator: &mut Generator) -> u32 {
     if generator.size(0, 1) == 0 {
         plane.iter_mut().for_each(|number| *number %= 2_000);
     }
-    let other = match generator.size(0, 3) {
+    returned(&both_clamp(&plane, &to_fill(generator, length))).0
+}
+
+/// A plane of any numbers, one time in four of any length.
+fn to_fill(generator: &mut Generator, length: usize) -> Vec<i32> {
+    let filled = match generator.size(0, 3) {
         0 => generator.size(0, 300),
         _ => length,
     };
-    returned(&both_clamp(&plane, &generator.numbers(other))).0
+    generator.numbers(filled)
+}
+
+/// A clamped plane, half of the time with up to three numbers that are not.
+fn curve(generator: &mut Generator) -> u32 {
+    let length = generator.size(0, 300);
+    let mut plane = clamped(generator, length);
+    if length > 0 && generator.size(0, 1) == 0 {
+        for _ in 0..generator.size(1, 3) {
+            let any = generator.between(i32::MIN.into(), i32::MAX.into()) as i32;
+            let number = generator.one_of(&UNCLAMPED);
+            let place = generator.size(0, length - 1);
+            plane[place] = generator.one_of(&[any, number]);
+        }
+    }
+    returned(&both_curve(&plane, &to_fill(generator, length))).0
 }
 
 /// A text for every number and code, one and the same for all that no call returns and no map holds, and a version of three numbers.
@@ -143,7 +168,7 @@ fn text(generator: &mut Generator) -> u32 {
     for text in [bayer::text(number), bayer::decision_text(number)] {
         assert!(!text.is_empty() && text.is_ascii(), "{number}: {text}");
     }
-    assert_eq!(bayer::text(number), bayer::text(number.min(13)), "{number}");
+    assert_eq!(bayer::text(number), bayer::text(number.min(14)), "{number}");
     let same = bayer::decision_text(number.min(7));
     assert_eq!(bayer::decision_text(number), same, "code {number}");
     let version: Vec<&str> = bayer::version().split('.').collect();

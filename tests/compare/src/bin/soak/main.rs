@@ -14,8 +14,8 @@ use std::panic::catch_unwind;
 use std::process::ExitCode;
 use std::time::{Instant, SystemTime, UNIX_EPOCH};
 
-/// How often each export returned each number, 0 to 12.
-type Counts = [[u64; 13]; EXPORTS.len()];
+/// How often each export returned each number, 0 to 13.
+type Counts = [[u64; 14]; EXPORTS.len()];
 
 /// From so many calls on every export has returned each of its numbers.
 const MANY: u64 = 20_000;

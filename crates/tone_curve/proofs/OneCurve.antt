@@ -1,13 +1,13 @@
 -- Each entry of the curve follows the rule, and no other whole number does: there is just one such table. No entry is below the one before
 -- it, and none is below its v. Assumes nothing.
-use Rattle.std.specs.Prelude.{◌≡◌, refl, Bool, true, false, ◌&&◌, ◌↔◌, List, ℕ, zero, suc, ◌+◌, ◌*◌, ◌<◌, ◌≤◌, ltb, eqb, ℤ, pos, negsuc, nat_abs, ◌+ℤ◌, ◌*ℤ◌, length, get_or}
+use Rattle.std.specs.Prelude.{◌≡◌, refl, Bool, true, false, ◌&&◌, ◌↔◌, List, ℕ, zero, suc, ◌+◌, ◌*◌, ◌<◌, ◌≤◌, ltb, ℤ, pos, negsuc, nat_abs, ◌+ℤ◌, ◌*ℤ◌, length}
 use Rattle.std.proofs.Common.{sym, ◌∙◌, ap, ap₂, true≢false, mul-le-mul, mul-le-mul_right, arith}
 use Rattle.std.specs.Int.Signed.{lt_z}
 use Rattle.toolkit.specs.Tests.{by_test, and_true, ltb_lt, ltb_ge, ltb_yes, eqb_eq}
 use Rattle.toolkit.specs.Differences.{as_difference}
 use Rattle.toolkit.specs.Orders.{to_naturals}
-use Rattle.toolkit.specs.Tables.{tabulate, length_tabulate, get_d_tabulate, is_tabulate}
-use Rattle.tone_curve.specs.ToneCurve.{entry_count, satisfies, may_be_entry, first_passing, curve_entry}
+use Rattle.toolkit.specs.Tables.{length_tabulate, get_d_tabulate, is_tabulate}
+use Rattle.tone_curve.specs.ToneCurve.{entry_count, satisfies, may_be_entry, first_passing, curve_entry, IsCurve, curve_table}
 
 -- ---- the rule, of naturals
 
@@ -23,7 +23,7 @@ both_less a b c e = (ltb_lt a b (and_true (ltb a b) (ltb b c) e).0, ltb_lt b c (
 rule_by : (v : ℕ) (t x y : ℤ) → pos 2 *ℤ t +ℤ negsuc 0 ≡ x → pos 2 *ℤ t +ℤ pos 1 ≡ y
     → satisfies v t ≡ (lt_z (x *ℤ x) (pos (4092 * v)) && lt_z (pos (4092 * v)) (y *ℤ y))
 unfolding satisfies
-rule_by v t x y ex ey = rw (ex, ey)
+rule_by v t x y ex ey = ap₂ (λ (p q : ℤ). lt_z (p *ℤ p) (pos (4092 * v)) && lt_z (pos (4092 * v)) (q *ℤ q)) ex ey
 
 rule_above : (v s : ℕ)
     → satisfies v (pos (suc s)) ≡ (ltb ((2 * s + 1) * (2 * s + 1)) (4092 * v) && ltb (4092 * v) ((2 * s + 3) * (2 * s + 3)))
@@ -97,6 +97,11 @@ first_passes test (suc more) t k from to e = by_test (test t) _
     next n = by_test (ltb t k) _ (λ q. ltb_lt t k q)
         (λ q. let same : t ≡ k = omega (arith, ltb_ge t k q) in absurd (true≢false (sym e ∙ (rw same at n))))
 
+-- "a curve of 1,024 entries"
+pub table_entries : length curve_table ≡ 1024
+unfolding curve_table entry_count
+table_entries = length_tabulate 1024 (λ v. pos (curve_entry v))
+
 -- ---- the entries
 
 -- entry v may be entry v
@@ -161,19 +166,10 @@ entry_at_most (suc v) h =
 
 -- ---- the table
 
--- a table of 1,024 whole numbers by the rule
-pub record IsCurve (table : List ℤ) : Type 0 where
-  pub entries : length table ≡ entry_count
-  pub follows : (v : ℕ) → v < entry_count → may_be_entry v (get_or table v (pos 0)) ≡ true
-
--- the curve as a table
-unfoldable pub curve_table : List ℤ
-curve_table = tabulate entry_count (λ v. pos (curve_entry v))
-
 curve_table_is : IsCurve curve_table
 unfolding curve_table entry_count
 curve_table_is = record {
-  entries = length_tabulate 1024 _;
+  entries = table_entries;
   follows = λ v h. rw (get_d_tabulate 1024 (λ k. pos (curve_entry k)) v (pos 0) h) (entry_follows v (omega arith));
 }
 

@@ -1,7 +1,7 @@
 // The square-root tone curve as a table.
 
-// Entry v is the whole number t with (2t − 1)² < 4,092·v < (2t + 1)², and entry 0 is 0.
-pub const CURVE: [u16; 1024] = [
+// "entry 0 is 0, and for v from 1 to 1,023 the entry t satisfies (2t − 1)² < 4,092·v < (2t + 1)²."
+pub(crate) const CURVE: [u16; 1024] = [
     0, 32, 45, 55, 64, 72, 78, 85, 90, 96, 101, 106, 111, 115, 120, 124, 128, 132, 136, 139, 143,
     147, 150, 153, 157, 160, 163, 166, 169, 172, 175, 178, 181, 184, 186, 189, 192, 195, 197, 200,
     202, 205, 207, 210, 212, 215, 217, 219, 222, 224, 226, 228, 231, 233, 235, 237, 239, 241, 244,

@@ -1,0 +1,2 @@
+pub mod EveryEntry
+pub mod Plane

@@ -1,0 +1,44 @@
+// What a program does: it reads a frame file, composes the text of it in a tone, and writes that.
+#![tactic(auto)]
+
+ghost use Rattle.std.specs.Prelude.{◌<◌, length, take, IfOk, IfSome, OnOk};
+ghost use Rattle.std.specs.Io.{ReadsAtMost};
+ghost use Rattle.std.specs.Io.KnownBytes.{Appends, Consumes, IsAtEnd};
+ghost use Rattle.printing.specs.Printing.{printed};
+
+use printing::Tone;
+use std::io;
+use std::io::{Read, Write};
+
+// Reads until the buffer is full, the input ends or a read fails, and answers how many bytes it put at the front of the buffer.
+fn read_full<R: Read>(input: &mut R, file: &mut [u8]) -> io::Result<usize>
+    ensures within { ReadsAtMost result file.new }
+    ensures bytes { IfOk result (λ n. Consumes (R.remaining input.old) (R.remaining input.new) (take n file.new)) }
+    ensures end { IfOk result (λ n. n < length file.new → IsAtEnd (R.remaining input.new)) }
+{
+    let mut length = 0;
+    // std has no method that reads until the buffer is full or the input ends: `read_exact` fails on less, `read_to_end` needs a heap.
+    while length < file.len() {
+        let count = input.read(&mut file[length..])?;
+        if count == 0 {
+            return Ok(length);
+        }
+        length += count;
+    }
+    Ok(length)
+}
+
+// Where the bytes of the input are known, and what the output holds, this grows by all that is printed of them. At most 2,049 bytes are
+// read: one more than a file may have, so that a longer one is seen, and endless input ends.
+pub fn print_file<R: Read, W: Write>(input: &mut R, output: &mut W, tone: Tone) -> io::Result<()>
+    ensures { OnOk result (IfSome (R.remaining input.old) (λ file.
+        Appends (W.contents output.old) (W.contents output.new) (printed tone file))) }
+{
+    let mut file = [0u8; 2049];
+    let length = read_full(input, &mut file)?;
+    output.write_all(
+        frame_text::compose(&file[..length], tone)
+            .as_str()
+            .as_bytes(),
+    )
+}
