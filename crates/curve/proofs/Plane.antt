@@ -1,10 +1,15 @@
--- Number 13, by one test of all numbers and the position of the first that fails. Assumes nothing.
-use Rattle.std.specs.Prelude.{◌≡◌, refl, Bool, true, not, ◌&&◌, List, [], ◌∷◌, ℕ, suc, ℤ, Option, Some, None, Err}
+-- Number 13, by one test of all numbers and the position of the first that fails; and that a plane which clamp leaves has none. Assumes
+-- nothing.
+use Rattle.std.specs.Prelude.{◌≡◌, refl, Bool, true, not, ◌&&◌, List, [], ◌∷◌, ℕ, suc, ◌<◌, ℤ, pos, length, Option, Some, None, Err}
 use Rattle.std.specs.List.{fold, position_from}
-use Rattle.std.proofs.Common.{◌∙◌, ap, add-one}
-use Rattle.toolkit.specs.Tests.{by_test, and_true}
+use Rattle.std.proofs.Common.{◌∙◌, ap, arith, add-one}
+use Rattle.std.proofs.lemmas.List.{get_or-map, length-map}
+use Rattle.std.specs.Int.Signed.{lt_z, lt_z_no, ≤ℤ_refl}
+use Rattle.toolkit.specs.Tests.{by_test, and_true, holds, leb_yes}
 use Rattle.frame.specs.declared.Refusal.TheVariants.{Unclamped}
-use Rattle.frame.specs.Calls.{Answer, first_failing, unclamped, unclamped_answer, no_refusal}
+use Rattle.frame.specs.Sites.{highest_sample}
+use Rattle.frame.specs.Calls.{Answer, first_failing, held, clamped, unclamped, unclamped_answer, Clamped, no_refusal}
+use Rattle.frame.proofs.Clamped.{thirteen_in_figures}
 
 -- every number passes the test, and so does what comes with them
 abbrev every_passes_with : Bool → List ℤ → Bool
@@ -40,3 +45,22 @@ found plane k e = found_from 0 plane ∙ ap by_position e
 pub none_found : (plane : List ℤ) → position_from unclamped 0 plane ≡ None → unclamped_answer plane ≡ no_refusal
 unfolding unclamped_answer
 none_found plane e = found_from 0 plane ∙ ap by_position e
+
+-- ---- what clamp leaves
+
+-- each number is from 0 to 1,023
+pub held_clamped : (v : ℤ) → Clamped (held v)
+unfolding held highest_sample
+held_clamped v = by_test (lt_z v (pos 0)) _
+    (λ t. rw t (≤ℤ_refl (pos 0), record { le = holds (leb_yes {m = 0} {n = 1023} (omega arith)) }))
+    (λ t. by_test (lt_z (pos 1023) v) _
+    (λ u. rw (t, u) (record { le = holds (leb_yes {m = 0} {n = 1023} (omega arith)) }, ≤ℤ_refl (pos 1023)))
+    (λ u. rw (t, u) (lt_z_no (rw t tt), lt_z_no (rw u tt))))
+
+-- so curve refuses none
+pub clamped_passes : (plane : List ℤ) → unclamped_answer (clamped plane) ≡ no_refusal
+unfolding clamped
+clamped_passes plane = (thirteen_in_figures (clamped plane)).1
+    (λ n h.
+    let inside : n < length plane = omega (arith, length-map plane held) in
+    rw (get_or-map held plane n (pos 0) (pos 0) inside) (held_clamped _))

@@ -1,13 +1,11 @@
--- The rule of the curve's entries is the test of tone_curve; the curve at a number from 0 to 1,023, and clamp's number is such a one. Assumes
--- nothing.
+-- The rule of the curve's entries is the test of tone_curve; the curve at a number from 0 to 1,023. Assumes nothing.
 use Rattle.std.specs.Prelude.{◌≡◌, refl, ◌↔◌, true, ℕ, zero, suc, ◌*◌, ◌≤◌, ℤ, pos, negsuc, nat_abs, ◌+ℤ◌, ◌*ℤ◌, ◌≤ℤ◌}
 use Rattle.std.proofs.Common.{ap, arith, leb→le}
-use Rattle.std.specs.Int.Signed.{lt_z, lt_z_yes, lt_z_no, ≤ℤ_refl}
-use Rattle.toolkit.specs.Tests.{by_test, is_true, holds, leb_yes, eqb_eq, and_true}
+use Rattle.std.specs.Int.Signed.{lt_z, lt_z_yes}
+use Rattle.toolkit.specs.Tests.{is_true, holds, leb_yes, eqb_eq, and_true}
 use Rattle.toolkit.specs.Differences.{as_difference}
 use Rattle.toolkit.specs.Orders.{to_naturals}
-use Rattle.frame.specs.Sites.{highest_sample}
-use Rattle.frame.specs.Calls.{held, Clamped}
+use Rattle.frame.specs.Calls.{Clamped}
 use Rattle.tone_curve.specs.ToneCurve.{satisfies, may_be_entry, curved_number}
 use Rattle.tone_curve.proofs.OneCurve.{entry_follows, the_entry, never_below_one_before, never_below_its_number, entry_at_most}
 use Rattle.demands.specs.ToneCurve.{square, FollowsRule}
@@ -68,11 +66,3 @@ unfolding curved_number
 curved_ordered (pos m) (pos n) c d h = less_or_equal (never_below_one_before m n (leb→le m n h.le) (size_most (pos n) d))
 curved_ordered (pos m) (negsuc n) c d h = absurd d.0.le
 curved_ordered (negsuc m) w c d h = absurd c.0.le
-
-pub held_clamped : (v : ℤ) → Clamped (held v)
-unfolding held highest_sample
-held_clamped v = by_test (lt_z v (pos 0)) _
-    (λ t. rw t (≤ℤ_refl (pos 0), less_or_equal (omega arith)))
-    (λ t. by_test (lt_z (pos 1023) v) _
-    (λ u. rw (t, u) (less_or_equal (omega arith), ≤ℤ_refl (pos 1023)))
-    (λ u. rw (t, u) (lt_z_no (rw t tt), lt_z_no (rw u tt))))

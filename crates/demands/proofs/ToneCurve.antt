@@ -6,18 +6,19 @@ use Rattle.std.proofs.Math.Arith.{digits_lt}
 use Rattle.std.proofs.lemmas.List.{get_or-map, length-map}
 use Rattle.toolkit.specs.Tests.{eqb_yes}
 use Rattle.frame.specs.Sites.{Frame, Colour, red, green, blue}
-use Rattle.frame.specs.Calls.{success, returned, clamp_answer, held, clamped, after, Answer, Clamped}
+use Rattle.frame.specs.Calls.{success, returned, clamp_answer, held, clamped, unclamped_answer, after, Answer, Clamped}
 use Rattle.frame.proofs.Admission.{returned_done}
 use Rattle.frame.proofs.Clamped.{thirteen_in_figures, equal_lengths, curve_done}
 use Rattle.method.specs.Comparison.{Change, changed_by, row_after, column_after, name_after}
 use Rattle.method.proofs.ChangeLists.{green_keeps_name}
 use Rattle.tone_curve.specs.ToneCurve.{curved_number, curved}
+use Rattle.curve.proofs.Plane.{held_clamped, clamped_passes}
 use Rattle.demands.specs.WhatCallsLeave.{plane_of, Developed, number_left, ClampLeaves, CurveLeaves, PlaneClamped, PlaneCurved, DevelopedCurved, curved_left}
 use Rattle.demands.specs.ToneCurve.{FollowsRule}
 use Rattle.demands.proofs.Acceptance.{developed_accepted}
 use Rattle.demands.proofs.Demand2.{numbers_left}
 use Rattle.demands.proofs.Demand3.{Corresponds, every_list_of_changes}
-use Rattle.demands.proofs.CurveNumbers.{curved_follows, curved_alone, curved_not_below, curved_clamped, curved_ordered, held_clamped}
+use Rattle.demands.proofs.CurveNumbers.{curved_follows, curved_alone, curved_not_below, curved_clamped, curved_ordered}
 
 -- ---- when curve accepts
 
@@ -109,12 +110,8 @@ module _ {numbers : List ℤ} (clamping : PlaneClamped numbers) where
   pub clamped_accepted : (before : List ℤ) (answer : Answer) (left : List ℤ) → CurveLeaves clamping.left before answer left
       → length before ≡ length clamping.left → returned answer ≡ success
   clamped_accepted before answer left call same =
-      (accepted_exactly_when_clamped clamping.left before answer left call).1 (
-        same,
-        λ n h.
-            let inside : n < length numbers = omega (arith, as_many_clamped) in
-            rw (held_number_is n inside) (held_clamped (get_or numbers n (pos 0))),
-      )
+      ap returned
+      (call.answered ∙ equal_lengths clamping.left (length before) same ∙ (ap unclamped_answer clamped_plane_is ∙ clamped_passes numbers))
 
 -- ---- a developed frame
 

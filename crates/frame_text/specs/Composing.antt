@@ -1,20 +1,19 @@
 -- A text composed in a lent buffer: the lines of the first k sites from position `at` on, the heading before them, the planes from which they
 -- come. Assumes nothing.
-use Rattle.std.specs.Prelude.{◌≡◌, refl, List, [], ◌∷◌, ℕ, ◌+◌, ◌/◌, ◌%◌, ◌<◌, ◌≤◌, T, ℤ, pos, negsuc, nat_abs, length}
+use Rattle.std.specs.Prelude.{◌≡◌, refl, List, [], ◌∷◌, ℕ, ◌+◌, ◌/◌, ◌%◌, ◌<◌, ◌≤◌, ℤ, length}
 use Rattle.std.proofs.Math.Path.{sym}
 use Rattle.std.proofs.Common.{◌∙◌, arith, take-append-drop}
 use Rattle.std.proofs.Math.Nat.{add-zero}
 use Rattle.std.proofs.Math.Numerals.{add-one}
 use Rattle.std.proofs.Math.ListN.{length-append}
-use Rattle.std.specs.Int.Signed.{non_neg}
 use Rattle.toolkit.specs.Tests.{eqb_yes}
-use Rattle.toolkit.specs.Orders.{to_naturals}
-use Rattle.frame.specs.Calls.{clamp_answer, clamped, curve_answer, Clamped, after, Answer, no_refusal}
-use Rattle.frame.proofs.Clamped.{thirteen_in_figures, equal_lengths}
+use Rattle.frame.specs.Calls.{clamp_answer, clamped, curve_answer, after, Answer, no_refusal}
+use Rattle.frame.proofs.Clamped.{equal_lengths}
+use Rattle.curve.proofs.Plane.{clamped_passes}
 use Rattle.frame_file.specs.Lists.{joined, put_at}
 use Rattle.printing.specs.Printing.{numbers_line, heading}
 use Rattle.text.specs.Put.{Put, put_then, put_as, put_length}
-use Rattle.frame_text.specs.PlanesText.{entry_of_clamped, planes_line, text_of_planes, ClampedNumbers, clamped_clamped, length_clamped_list}
+use Rattle.frame_text.specs.PlanesText.{entry_of_clamped, planes_line, text_of_planes, ClampedNumbers, length_clamped_list}
 use Rattle.frame_text.specs.Room.{joined_longer, planes_text_fits}
 
 -- the lines of the first k sites stand from `at` on
@@ -86,14 +85,7 @@ pub clamp_allowed : (plane filled : ℕ) → filled ≡ plane → clamp_answer p
 unfolding clamp_answer
 clamp_allowed plane filled same = rw (eqb_yes same)
 
--- a number from 0 to 1,023, in figures
-inside : (z : ℤ) → T (non_neg z) → nat_abs z ≤ 1023 → Clamped z
-inside (pos n) low high = let h : n ≤ 1023 = high in simp to_naturals (omega arith, omega arith)
-inside (negsuc n) low high = absurd low
-
 -- nor does the curve refuse a clamped plane
 pub curve_allowed : (plane : List ℤ) (filled : ℕ) → filled ≡ length plane → curve_answer (clamped plane) filled ≡ no_refusal
 curve_allowed plane filled same =
-    let c = clamped_clamped plane in
-    equal_lengths (clamped plane) filled (same ∙ sym (length_clamped_list plane))
-    ∙ (thirteen_in_figures (clamped plane)).1 (λ n h. inside _ (c.low n) (c.high n))
+    equal_lengths (clamped plane) filled (same ∙ sym (length_clamped_list plane)) ∙ clamped_passes plane
