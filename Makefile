@@ -1,48 +1,42 @@
-# make run      develops the document's example frame by the proved program and prints it; make run FRAME=path, any frame file of at
-#               most 2,048 bytes and 1,024 samples (the first time the program's crates are proved, which takes minutes)
-# make curve    prints the same through the tone curve, by the program print_curve; FRAME here too
-# make test     proves every crate and passes the tests; its last line is 'N passed, M failed'
-# make bench    times the proved library beside the versions of bench/, in some minutes, and writes docs/performance.svg
-# make profile  proves and builds the library, and prints the calls and the share of the time of each function in develop, on TEXTURE
-# make tool     builds the command-line tool, build/tool/release/bayer-tool
-# make turned   develops the built-in glaze before and after the list CHANGES, by the library and by the old way
-# make soak     CALLS random and damaged calls of every export, against the independent implementation; SEED and FROM repeat them
-# make lib      proves the library and writes build/lib/libbayer.a and libbayer.so
-# make install  puts the libraries, the header and the pkg-config file under PREFIX; `make lib` comes first where it is due
+#   make run        develops examples/glaze.bayr by the proved program and prints it; FRAME=path takes another frame file
+#   make curve      prints the same through the tone curve; FRAME here too
+#   make unproved   prints what make run prints, within seconds, by the same program with no proof tried
+#   make test       proves every crate and passes the tests; its last line is 'N passed, M failed'
+#   make lib        proves the library and writes build/lib/libbayer.a and libbayer.so
+#   make install    puts the libraries, the header, the pkg-config file and FORMAT.md under PREFIX, once they are made
+#   make lib-check  has rt lib prove and build the library from nothing, and compares the bytes
+#   make tool       builds the command-line tool, build/tool/release/bayer-tool
+#   make turned     develops the built-in glaze before and after the list CHANGES, by the library and by the old way
+#   make soak       CALLS random and damaged calls of every export, against the independent implementation; SEED, FROM repeat them
+#   make bench      times the proved library beside the versions of bench/, in some minutes, and writes docs/performance.svg
+#   make profile    tells the calls and the share of the time of each function in develop, on TEXTURE
+#   make help       prints these lines, as make alone does
 PREFIX ?= /usr/local
 CHANGES ?= transpose left-right
-.PHONY: run curve test bench profile tool turned soak lib install
-
 FRAME ?= examples/glaze.bayr
+.PHONY: help run curve unproved test lib install lib-check tool turned soak bench profile
 
-run: PROGRAM = print_frame
-curve: PROGRAM = print_curve
+help:
+	@sed -n 's/^#   //p' Makefile
 
-run curve:
-	@mkdir -p build && : > build/$@.log
-	@(cd crates/$(PROGRAM) && rt run 2> ../../build/$@.log) < "$(FRAME)" || { cat build/$@.log >&2; exit 1; }
+# A tool that a target needs and that is not there is told before anything is done.
+need-%:
+	@tools/needs $*
 
-test:
+run: need-rt
+	@tools/print proved print_frame "$(FRAME)"
+
+curve: need-rt
+	@tools/print proved print_curve "$(FRAME)"
+
+unproved: need-rt
+	@tools/print unproved print_frame "$(FRAME)"
+
+test: need-rt need-gcc need-cargo
 	@tests/run
 
-bench: lib
-	@CARGO_TARGET_DIR=build/bench cargo run --quiet --release --manifest-path bench/Cargo.toml --bin speed -- docs/performance.svg
-
-profile: lib
-	@bench/profile/run $(TEXTURE)
-
-tool: build/lib/libbayer.so
-	@CARGO_TARGET_DIR=build/tool cargo build --quiet --release --manifest-path tools/bayer-tool/Cargo.toml
-
-turned: tool
-	@build/tool/release/bayer-tool turned $(CHANGES)
-
-soak: build/lib/libbayer.so
-	@CARGO_TARGET_DIR=build/compare cargo run --quiet --release --manifest-path tests/compare/Cargo.toml --bin soak -- \
-	    "$(CALLS)" "$(SEED)" "$(FROM)"
-
-lib:
-	@cd crates/bayer_c && rt lib
+lib: need-rt need-gcc
+	@tools/proofs/prove bayer_c
 	@library/build
 
 build/lib/libbayer.so: include/bayer.h $(wildcard library/* crates/*/src/*.rt)
@@ -50,3 +44,22 @@ build/lib/libbayer.so: include/bayer.h $(wildcard library/* crates/*/src/*.rt)
 
 install: build/lib/libbayer.so
 	@library/install "$(abspath $(PREFIX))"
+
+lib-check: lib
+	@library/check
+
+tool: need-cargo need-gcc build/lib/libbayer.so
+	@CARGO_TARGET_DIR=build/tool cargo build --quiet --release --manifest-path tools/bayer-tool/Cargo.toml
+
+turned: tool
+	@build/tool/release/bayer-tool turned $(CHANGES)
+
+soak: need-cargo need-gcc build/lib/libbayer.so
+	@CARGO_TARGET_DIR=build/compare cargo run --quiet --release --manifest-path tests/compare/Cargo.toml --bin soak -- \
+	    "$(CALLS)" "$(SEED)" "$(FROM)"
+
+bench: need-cargo lib
+	@CARGO_TARGET_DIR=build/bench cargo run --quiet --release --manifest-path bench/Cargo.toml --bin speed -- docs/performance.svg
+
+profile: lib
+	@bench/profile/run $(TEXTURE)
