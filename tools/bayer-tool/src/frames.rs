@@ -1,11 +1,10 @@
 //! Frames: from and to frame files, and developed by the library.
 
-use crate::output;
+use crate::input::Input;
+use crate::output::Output;
 use crate::problem::Problem;
 use bayer::{Decision, Refusal, Shape, SIDES};
 use reference::sites::Frame;
-use std::fs::File;
-use std::io::{self, Read};
 
 /// Red, green and blue.
 pub type Planes = [Vec<i32>; 3];
@@ -29,22 +28,11 @@ pub fn shape(frame: &Frame) -> Shape {
     }
 }
 
-/// At most `most` bytes of a file.
-pub fn read_file(name: &str, most: u64) -> Result<Vec<u8>, Problem> {
-    let read = || -> io::Result<Vec<u8>> {
-        let mut bytes = Vec::new();
-        File::open(name)?.take(most).read_to_end(&mut bytes)?;
-        Ok(bytes)
-    };
-    read().map_err(|why| Problem::File(name.into(), why))
-}
-
 /// The frame of a frame file.
-pub fn load(name: &str) -> Result<Frame, Problem> {
-    let file = read_file(name, ENOUGH)?;
+pub fn load(from: Input) -> Result<Frame, Problem> {
+    let file = from.read(ENOUGH)?;
     let mut samples = vec![0; bayer::read_length(file.len())];
-    let shape =
-        bayer::read(&file, &mut samples).map_err(|why| Problem::Refused(name.into(), why))?;
+    let shape = bayer::read(&file, &mut samples).map_err(|why| from.refused(why))?;
     samples.truncate(shape.plane_length());
     Ok(Frame {
         width: shape.width,
@@ -54,14 +42,14 @@ pub fn load(name: &str) -> Result<Frame, Problem> {
     })
 }
 
-/// Writes the frame file `name`; `from` is where the frame is from.
-pub fn save(frame: &Frame, from: &str, name: &str) -> Result<(), Problem> {
+/// Writes the frame file of a frame that is from this input.
+pub fn save(frame: &Frame, from: Input, to: &Output) -> Result<(), Problem> {
     let shape = shape(frame);
-    let refused = |why| Problem::Refused(from.into(), why);
+    let refused = |why| from.refused(why);
     admitted(frame.width, frame.height).map_err(refused)?;
     let mut file = vec![0; shape.file_length()];
     bayer::write(shape, &frame.samples, &mut file).map_err(refused)?;
-    output::write_whole(name, &file)
+    to.write(&file)
 }
 
 /// The library's refusal of a size, before a buffer is made for it.

@@ -6,12 +6,15 @@ pub mod commands;
 pub mod decision_map;
 pub mod frames;
 pub mod glaze;
+pub mod input;
 pub mod netpbm;
 pub mod old_way;
 pub mod output;
 pub mod picture;
 pub mod problem;
 pub mod progress;
+mod standard;
+mod ways;
 
 use problem::Problem;
 use std::ffi::OsString;
@@ -27,6 +30,7 @@ usage: bayer-tool show FRAME PICTURE                       a frame file, develop
        bayer-tool help                                     these lines
        bayer-tool version                                  the library's version
 P is 0 or RGGB, 1 or GRBG, 2 or GBRG, 3 or BGGR. CHANGE is left-right, top-bottom, transpose or trade.
+A file named - is standard input where it is read, and standard output where it is written: a picture there is a .ppm.
 ";
 
 /// Does what the words ask for.

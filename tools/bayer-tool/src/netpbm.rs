@@ -1,6 +1,6 @@
 //! PGM and PPM images, plain (P2, P3) and raw (P5, P6).
 
-use crate::frames::read_file;
+use crate::input::Input;
 use crate::problem::Problem;
 use bayer::SIDES;
 
@@ -19,14 +19,14 @@ pub struct Image {
     pub values: Vec<u16>,
 }
 
-pub fn load(name: &str) -> Result<Image, Problem> {
-    load_within(name, ENOUGH)
+pub fn load(from: Input) -> Result<Image, Problem> {
+    load_within(from, ENOUGH)
 }
 
 /// The image of a file of at most so many bytes. Of a longer one the part that is read could pass for a whole image.
-pub fn load_within(name: &str, most: u64) -> Result<Image, Problem> {
-    let wrong = |what: String| Problem::Form(name.into(), what);
-    let bytes = read_file(name, most + 1)?;
+pub fn load_within(from: Input, most: u64) -> Result<Image, Problem> {
+    let wrong = |what: String| Problem::Form(from.name().into(), what);
+    let bytes = from.read(most + 1)?;
     if bytes.len() as u64 > most {
         return Err(wrong(format!("longer than {most} bytes")));
     }

@@ -1,7 +1,8 @@
 //! Pictures of eight bits a colour, as PPM or as PNG.
 
-use crate::output;
+use crate::output::Output;
 use crate::problem::Problem;
+use crate::standard;
 
 #[derive(Clone, Copy, Debug, PartialEq, Eq)]
 pub enum Kind {
@@ -10,10 +11,10 @@ pub enum Kind {
 }
 
 impl Kind {
-    /// By the ending of the file's name.
+    /// By the ending of the file's name. Standard output has none, and PPM is what programs hand to each other.
     pub fn of(name: &str) -> Result<Kind, Problem> {
         let name_of = name.to_ascii_lowercase();
-        if name_of.ends_with(".ppm") {
+        if name_of.ends_with(".ppm") || name == standard::WORD {
             Ok(Kind::Ppm)
         } else if name_of.ends_with(".png") {
             Ok(Kind::Png)
@@ -45,12 +46,12 @@ impl Picture {
         }
     }
 
-    pub fn save(&self, kind: Kind, name: &str) -> Result<(), Problem> {
+    pub fn save(&self, kind: Kind, to: &Output) -> Result<(), Problem> {
         let file = match kind {
             Kind::Ppm => self.ppm(),
             Kind::Png => self.png(),
         };
-        output::write_whole(name, &file)
+        to.write(&file)
     }
 
     pub fn ppm(&self) -> Vec<u8> {

@@ -5,6 +5,7 @@ mod common;
 
 use bayer_tool::commands::facts::{ties, Ties};
 use bayer_tool::commands::frame::masked;
+use bayer_tool::input::Input;
 use bayer_tool::netpbm::{load_within, parse, Image};
 use common::{frame, Generator, KINDS};
 use reference::green::{first_pass, Outcome};
@@ -87,8 +88,11 @@ fn a_file_longer_than_what_is_read() {
     let whole = b"P2 2 2 99 1 2 3 45";
     std::fs::write(name, whole).unwrap();
     let most = whole.len() as u64;
-    assert_eq!(load_within(name, most).unwrap().values, [1, 2, 3, 45]);
-    let problem = load_within(name, most - 1).unwrap_err();
+    assert_eq!(
+        load_within(Input::of(name), most).unwrap().values,
+        [1, 2, 3, 45]
+    );
+    let problem = load_within(Input::of(name), most - 1).unwrap_err();
     assert_eq!(problem.to_string(), format!("{name}: longer than 17 bytes"));
 }
 

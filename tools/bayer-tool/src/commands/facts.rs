@@ -3,6 +3,7 @@
 use crate::arguments::{Arguments, PHASES};
 use crate::bordered::{Border, Bordered};
 use crate::frames;
+use crate::input::Input;
 use crate::output;
 use crate::problem::Problem;
 use crate::progress::Progress;
@@ -45,5 +46,5 @@ fn text(frame: &Frame) -> String {
 pub fn run(words: &[String]) -> Result<(), Problem> {
     let arguments = Arguments::parse(words, &[], &[])?;
     let [from] = arguments.exactly(["FRAME"])?;
-    output::print(&text(&frames::load(from)?))
+    output::print(&text(&frames::load(Input::of(from))?))
 }

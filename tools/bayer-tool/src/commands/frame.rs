@@ -3,7 +3,9 @@
 
 use crate::arguments::{phase, Arguments};
 use crate::frames;
+use crate::input::Input;
 use crate::netpbm::{self, Image};
+use crate::output::Output;
 use crate::problem::Problem;
 use crate::progress::Progress;
 use bayer::SAMPLE_MOST;
@@ -46,8 +48,10 @@ pub fn run(words: &[String]) -> Result<(), Problem> {
         .option("--phase")
         .ok_or_else(|| Problem::Usage("--phase is needed".into()))?;
     let phase = phase(given)?;
+    let from = Input::of(from);
+    let to = Output::of(to, Some(from))?;
     let image = netpbm::load(from)?;
     Progress::of(image.values.len() / image.channels).step("writing the frame file");
     let frame = masked(&image, phase, arguments.flag("--unscaled"));
-    frames::save(&frame, from, to)
+    frames::save(&frame, from, &to)
 }

@@ -4,7 +4,8 @@
 use crate::arguments::Arguments;
 use crate::decision_map;
 use crate::frames::{self, Planes};
-use crate::output;
+use crate::input::Input;
+use crate::output::Output;
 use crate::picture::{Kind, Picture};
 use crate::problem::Problem;
 use crate::progress::Progress;
@@ -73,11 +74,13 @@ pub fn run(words: &[String]) -> Result<(), Problem> {
     let [from, to] = arguments.exactly(["FRAME", "PICTURE"])?;
     let show = asked(&arguments)?;
     let kind = Kind::of(to)?;
+    let from = Input::of(from);
+    let to = Output::of(to, Some(from))?;
     let frame = frames::load(from)?;
     let progress = Progress::of(frame.samples.len());
     progress.step("developing");
-    let (picture, legend) = show(&frame).map_err(|why| Problem::Refused(from.into(), why))?;
+    let (picture, legend) = show(&frame).map_err(|why| from.refused(why))?;
     progress.step("writing the picture");
-    picture.save(kind, to)?;
-    output::print(&legend)
+    picture.save(kind, &to)?;
+    to.print_beside(&legend)
 }

@@ -5,8 +5,9 @@ use crate::arguments::{size, Arguments, PHASES};
 use crate::commands::facts::{ties, Ties};
 use crate::frames::{self, Planes};
 use crate::glaze::glaze;
+use crate::input::Input;
 use crate::old_way;
-use crate::output;
+use crate::output::{self, Output};
 use crate::picture::{Kind, Picture};
 use crate::problem::Problem;
 use crate::progress::Progress;
@@ -138,7 +139,10 @@ fn first_frame(arguments: &Arguments) -> Result<(String, Frame), Problem> {
         (Some(_), Some(_)) => Err(Problem::Usage(
             "--frame and --size exclude each other".into(),
         )),
-        (Some(name), None) => Ok((name.into(), frames::load(name)?)),
+        (Some(word), None) => {
+            let from = Input::of(word);
+            Ok((from.name().into(), frames::load(from)?))
+        }
         (None, given) => {
             let (width, height) = given.map_or(Ok(GLAZE), size)?;
             let name = "built-in glaze";
@@ -146,6 +150,15 @@ fn first_frame(arguments: &Arguments) -> Result<(String, Frame), Problem> {
             Ok((name.into(), glaze(width, height)))
         }
     }
+}
+
+/// What is asked to be drawn, and where, apart from what is read.
+fn drawn(arguments: &Arguments) -> Result<Option<(Kind, Output)>, Problem> {
+    let from = arguments.option("--frame").map(Input::of);
+    let Some(word) = arguments.option("--picture") else {
+        return Ok(None);
+    };
+    Ok(Some((Kind::of(word)?, Output::of(word, from)?)))
 }
 
 fn headline(name: &str, frame: &Frame) -> String {
@@ -164,8 +177,7 @@ pub fn run(words: &[String]) -> Result<(), Problem> {
         .iter()
         .map(change)
         .collect::<Result<_, _>>()?;
-    let drawn = arguments.option("--picture");
-    let kind = drawn.map(Kind::of).transpose()?;
+    let drawn = drawn(&arguments)?;
     let (name, first) = first_frame(&arguments)?;
     let progress = Progress::of(first.samples.len());
     progress.step("developing by the library, before and after");
@@ -174,15 +186,16 @@ pub fn run(words: &[String]) -> Result<(), Problem> {
     progress.step("developing by the old way, before and after");
     let developed = |frame: &Frame| Ok::<_, Problem>(old_way::develop(frame, old_way::OLD));
     let old = Turned::by(developed, &first, &changes)?;
-    if let (Some(drawn), Some(kind)) = (drawn, kind) {
-        picture(&first, &library, &old).save(kind, drawn)?;
-    }
     let listed = arguments.words.join(" ");
     let head = headline(&name, &first);
-    output::print(&format!(
-        "{head}changes: {listed}\n\n{}",
-        table(&library, &old)
-    ))?;
+    let text = format!("{head}changes: {listed}\n\n{}", table(&library, &old));
+    match drawn {
+        None => output::print(&text)?,
+        Some((kind, to)) => {
+            picture(&first, &library, &old).save(kind, &to)?;
+            to.print_beside(&text)?;
+        }
+    }
     match library.differ() {
         0 => Ok(()),
         count => Err(Problem::Differs(count)),
