@@ -35,8 +35,8 @@ extern "C" {
    built again, the second where a call is new. */
 #define BAYER_VERSION_MAJOR 3
 #define BAYER_VERSION_MINOR 1
-#define BAYER_VERSION_PATCH 0
-#define BAYER_VERSION "3.1.0"
+#define BAYER_VERSION_PATCH 1
+#define BAYER_VERSION "3.1.1"
 
 /* A call takes at most this many bytes of the caller's stack: a thread with just this stack may develop from its first function. */
 #define BAYER_STACK_BYTES 589824
