@@ -1,6 +1,7 @@
 /* Develops frames of 10-bit Bayer samples at a black level to red, green and blue planes and tells how each green was decided, holds planes
-   to 0..1,023, applies the square-root tone curve to them, and reads and writes frame files (docs/FORMAT.md). Usable from C99 and C++11 on.
-   Link libbayer.a or libbayer.so.
+   to 0..1,023, applies the square-root tone curve to them, and reads and writes frame files. Usable from C99 and C++11 on.
+   Link libbayer.a or libbayer.so. The frame file is told by FORMAT.md, installed as share/doc/bayer/FORMAT.md under the
+   prefix of this header.
 
    Every input is answered: a call returns 0, 0 or the number and place of a refusal, and a refusal leaves every buffer as it was.
    Arguments stand in one order in all calls: shape, black level, mosaic, the planes red, green and blue, map, work, each buffer before its
@@ -51,16 +52,24 @@ extern "C" {
 /* How far a sample may lie under the black level. */
 #define BAYER_UNDER_BLACK_MOST 64
 
+/* A number of any integer type as size_t. In C++ `+ 0LL` makes of each type another than size_t, so that the cast is
+   useless to none. */
+#ifdef __cplusplus
+#define BAYER_AS_SIZE(number) static_cast<size_t>((number) + 0LL)
+#else
+#define BAYER_AS_SIZE(number) ((size_t)(number))
+#endif
+
 /* Entries of a mosaic or a plane, bytes of the decision map, least entries of develop's work buffer, and bytes of the frame file, for
    sides within the range. */
-#define BAYER_PLANE_LENGTH(width, height) ((size_t)(width) * (size_t)(height))
+#define BAYER_PLANE_LENGTH(width, height) (BAYER_AS_SIZE(width) * BAYER_AS_SIZE(height))
 #define BAYER_MAP_LENGTH(width, height) BAYER_PLANE_LENGTH(width, height)
-#define BAYER_WORK_LENGTH(width, height) ((size_t)4 * BAYER_PLANE_LENGTH(width, height))
-#define BAYER_FILE_LENGTH(width, height) ((size_t)512 * (1 + (BAYER_PLANE_LENGTH(width, height) + 399) / 400))
+#define BAYER_WORK_LENGTH(width, height) (4 * BAYER_PLANE_LENGTH(width, height))
+#define BAYER_FILE_LENGTH(width, height) (512 * (1 + (BAYER_PLANE_LENGTH(width, height) + 399) / 400))
 
 /* Entries that are enough for read, whatever frame a file of this many bytes holds: for use before W and H are known. It is at most 799
    entries more than W*H. No file needs more than 4,096*4,096. */
-#define BAYER_READ_LENGTH(file_length) ((size_t)(file_length) / 512 * 400)
+#define BAYER_READ_LENGTH(file_length) (BAYER_AS_SIZE(file_length) / 512 * 400)
 
 /* The order of the colours along row 0 and then row 1. */
 enum bayer_phase {
@@ -82,7 +91,7 @@ enum bayer_decision {
 };
 
 /* The numbers that the calls return, and the place that comes with each. The order of the tests is 1, 2, 11, 3, 4, 5, 12 in develop, every
-   sample being tested for 5 before the first is refused by 12; 1 to 5 in write; 4, 13 in curve; read's order is told by docs/FORMAT.md. */
+   sample being tested for 5 before the first is refused by 12; 1 to 5 in write; 4, 13 in curve; read's order is told by FORMAT.md. */
 enum bayer_number {
     BAYER_DONE = 0,           /* 0: success */
     BAYER_SIZE = 1,           /* 0: W or H below 2 or above 4,096 (develop, write) */
