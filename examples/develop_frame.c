@@ -1,85 +1,140 @@
-/* develop_frame FILE: reads a frame file, develops and clamps it, and prints each site's colours by the tone curve of display panels. A
-   refusal is printed as its number, place and text. C99.
+/* develop_frame FILE: reads a frame file, develops and clamps it, and prints each site's colours by the tone curve of
+   display panels. What fails is told in one line on standard error, with status 1; a refusal of the library's by its
+   number, place and text. FILE may be a pipe. C99.
 
        cc develop_frame.c $(pkg-config --cflags --libs bayer) */
 #include <bayer.h>
 #include <stdio.h>
 #include <stdlib.h>
 
-/* The camera's black level: the sample that stands for no light. A frame file does not hold it. 0 is right for samples that had it taken
-   off before, as those of the document's example. */
+/* The camera's black level: the sample that stands for no light. A frame file does not hold it. 0 is right for samples
+   that had it taken off before, as those of the document's example. */
 static const size_t black = 0;
 
-/* The buffers that are lent to the calls. */
-struct buffers {
-    uint16_t *samples;
-    int32_t *red, *green, *blue, *work, *clamped;
+/* The room for a file at first, a block of it; it is doubled until the file ends in it. */
+static const size_t first_room = 512;
+
+static const char output[] = "standard output";
+
+struct contents {
+    uint8_t *bytes;
+    size_t length;
+};
+
+struct frame {
+    struct bayer_shape shape;
+    uint16_t *mosaic;
+};
+
+struct planes {
+    int32_t *red, *green, *blue;
     uint8_t *map;
 };
 
-static int refused(size_t number, size_t place)
+/* Ends the program with the system's reason. */
+static void fail(const char *name)
 {
-    printf("refused %zu %zu: %s\n", number, place, bayer_text(number));
-    return 1;
+    perror(name);
+    exit(EXIT_FAILURE);
+}
+
+/* Ends the program where the library refuses what it was lent. */
+static void accept(struct bayer_returned returned)
+{
+    if (returned.number != BAYER_DONE) {
+        const char *text = bayer_text(returned.number);
+        fprintf(stderr, "refused %zu %zu: %s\n", returned.number, returned.place, text);
+        exit(EXIT_FAILURE);
+    }
+}
+
+/* Ends the program where there is no memory. */
+static void *allocated(void *memory)
+{
+    if (memory == NULL) {
+        fputs("out of memory\n", stderr);
+        exit(EXIT_FAILURE);
+    }
+    return memory;
 }
 
 static void *room(size_t count, size_t size)
 {
-    void *made = calloc(count > 0 ? count : 1, size);
-    if (made == NULL) {
-        fputs("out of memory\n", stderr);
-        exit(2);
-    }
-    return made;
+    return allocated(calloc(count > 0 ? count : 1, size));
 }
 
-/* All bytes of the file; their count goes to length. */
-static uint8_t *contents(const char *path, size_t *length)
+/* All bytes of the file. Its size is not asked for, as a pipe has none. */
+static struct contents contents(const char *path)
 {
     FILE *stream = fopen(path, "rb");
-    if (stream == NULL || fseek(stream, 0, SEEK_END) != 0) {
-        perror(path);
-        exit(2);
+    if (stream == NULL) {
+        fail(path);
     }
-    const long end = ftell(stream);
-    rewind(stream);
-    uint8_t *file = room(end > 0 ? (size_t)end : 0, 1);
-    *length = fread(file, 1, end > 0 ? (size_t)end : 0, stream);
+    struct contents file = {NULL, 0};
+    size_t size = 0;
+    do {
+        size = size > 0 ? 2 * size : first_room;
+        file.bytes = allocated(realloc(file.bytes, size));
+        file.length += fread(file.bytes + file.length, 1, size - file.length, stream);
+    } while (file.length == size);
+    if (ferror(stream)) {
+        fail(path);
+    }
     fclose(stream);
     return file;
 }
 
-/* Clamps a developed plane, and applies the tone curve to what that gives. */
-static void show(int32_t *plane, int32_t *clamped, size_t count)
+static struct frame frame_of(struct contents file)
 {
-    bayer_clamp(plane, count, clamped, count);
-    bayer_curve(clamped, count, plane, count);
+    const size_t length = BAYER_READ_LENGTH(file.length);
+    uint16_t *samples = room(length, sizeof *samples);
+    const struct bayer_read_returned read = bayer_read(file.bytes, file.length, samples, length);
+    accept((struct bayer_returned){read.number, read.place});
+    return (struct frame){{read.width, read.height, read.phase}, samples};
 }
 
-static int develop(struct bayer_shape shape, struct buffers *lent)
+static struct planes developed(struct frame frame)
 {
-    const size_t count = BAYER_PLANE_LENGTH(shape.width, shape.height);
-    const size_t map_length = BAYER_MAP_LENGTH(shape.width, shape.height);
-    const size_t work_length = BAYER_WORK_LENGTH(shape.width, shape.height);
-    lent->red = room(count, sizeof *lent->red);
-    lent->green = room(count, sizeof *lent->green);
-    lent->blue = room(count, sizeof *lent->blue);
-    lent->clamped = room(count, sizeof *lent->clamped);
-    lent->map = room(map_length, sizeof *lent->map);
-    lent->work = room(work_length, sizeof *lent->work);
-    const struct bayer_returned returned = bayer_develop(shape, black, lent->samples, count, lent->red, count, lent->green, count,
-                                                         lent->blue, count, lent->map, map_length, lent->work, work_length);
-    if (returned.number != BAYER_DONE) {
-        return refused(returned.number, returned.place);
+    const size_t count = BAYER_PLANE_LENGTH(frame.shape.width, frame.shape.height);
+    const size_t map_length = BAYER_MAP_LENGTH(frame.shape.width, frame.shape.height);
+    const size_t work_length = BAYER_WORK_LENGTH(frame.shape.width, frame.shape.height);
+    struct planes planes;
+    planes.red = room(count, sizeof *planes.red);
+    planes.green = room(count, sizeof *planes.green);
+    planes.blue = room(count, sizeof *planes.blue);
+    planes.map = room(map_length, sizeof *planes.map);
+    int32_t *work = room(work_length, sizeof *work);
+    accept(bayer_develop(frame.shape, black, frame.mosaic, count, planes.red, count, planes.green,
+                         count, planes.blue, count, planes.map, map_length, work, work_length));
+    free(work);
+    return planes;
+}
+
+/* Clamps a developed plane, and applies the tone curve to what that gives. */
+static void curve(int32_t *plane, size_t count)
+{
+    int32_t *clamped = room(count, sizeof *clamped);
+    accept(bayer_clamp(plane, count, clamped, count));
+    accept(bayer_curve(clamped, count, plane, count));
+    free(clamped);
+}
+
+/* A full disk shows where the output is written, at the latest where it is closed. */
+static void print(struct bayer_shape shape, struct planes planes)
+{
+    if (puts("row col red green blue") == EOF) {
+        fail(output);
     }
-    show(lent->red, lent->clamped, count);
-    show(lent->green, lent->clamped, count);
-    show(lent->blue, lent->clamped, count);
-    puts("row col red green blue");
-    for (size_t k = 0; k < count; k++) {
-        printf("%zu %zu %d %d %d\n", k / shape.width, k % shape.width, (int)lent->red[k], (int)lent->green[k], (int)lent->blue[k]);
+    for (size_t k = 0; k < BAYER_PLANE_LENGTH(shape.width, shape.height); k++) {
+        const int red = planes.red[k], green = planes.green[k], blue = planes.blue[k];
+        const size_t row = k / shape.width, column = k % shape.width;
+        if (printf("%zu %zu %d %d %d\n", row, column, red, green, blue) < 0) {
+            fail(output);
+        }
     }
-    return 0;
+    if (fclose(stdout) != 0) {
+        fail(output);
+    }
 }
 
 int main(int count, char **words)
@@ -88,20 +143,19 @@ int main(int count, char **words)
         fputs("usage: develop_frame FILE\n", stderr);
         return 2;
     }
-    size_t length;
-    struct buffers lent = {NULL, NULL, NULL, NULL, NULL, NULL, NULL};
-    uint8_t *file = contents(words[1], &length);
-    lent.samples = room(BAYER_READ_LENGTH(length), sizeof *lent.samples);
-    const struct bayer_read_returned read = bayer_read(file, length, lent.samples, BAYER_READ_LENGTH(length));
-    const struct bayer_shape shape = {read.width, read.height, read.phase};
-    const int status = read.number == BAYER_DONE ? develop(shape, &lent) : refused(read.number, read.place);
-    free(file);
-    free(lent.samples);
-    free(lent.red);
-    free(lent.green);
-    free(lent.blue);
-    free(lent.clamped);
-    free(lent.map);
-    free(lent.work);
-    return status;
+    const struct contents file = contents(words[1]);
+    const struct frame frame = frame_of(file);
+    const struct planes planes = developed(frame);
+    const size_t sites = BAYER_PLANE_LENGTH(frame.shape.width, frame.shape.height);
+    curve(planes.red, sites);
+    curve(planes.green, sites);
+    curve(planes.blue, sites);
+    print(frame.shape, planes);
+    free(file.bytes);
+    free(frame.mosaic);
+    free(planes.red);
+    free(planes.green);
+    free(planes.blue);
+    free(planes.map);
+    return EXIT_SUCCESS;
 }

@@ -1,25 +1,37 @@
-//! develop_frame FILE: reads a frame file, develops and clamps it, and prints each site's colours by the tone curve of display panels. A
-//! refusal is printed as its number, place and text.
+//! develop_frame FILE: reads a frame file, develops and clamps it, and prints each site's colours by the tone curve of
+//! display panels. What fails is told in one line on standard error, with status 1; a refusal of the library's by its
+//! number, place and text. FILE may be a pipe.
 
+use std::collections::TryReserveError;
+use std::error::Error;
 use std::io::Write;
+use std::path::Path;
 use std::process::ExitCode;
 
-use bayer::{clamp, curve, develop, read, read_length, Refusal, Shape};
+use bayer::{clamp, curve, develop, read, read_length, Shape};
 
 type Plane = Vec<i32>;
 
-/// The camera's black level: the sample that stands for no light. A frame file does not hold it. 0 is right for samples that had it taken
-/// off before, as those of the document's example.
+/// The camera's black level: the sample that stands for no light. A frame file does not hold it. 0 is right for samples
+/// that had it taken off before, as those of the document's example.
 const BLACK: usize = 0;
 
+/// A buffer of so many zeros. `vec!` would abort the program where there is no memory.
+fn zeros<T: Clone + Default>(count: usize) -> Result<Vec<T>, TryReserveError> {
+    let mut buffer = Vec::new();
+    buffer.try_reserve_exact(count)?;
+    buffer.resize(count, T::default());
+    Ok(buffer)
+}
+
 /// The frame's shape and its three planes, clamped and curved.
-fn developed(file: &[u8]) -> Result<(Shape, [Plane; 3]), Refusal> {
-    let mut samples = vec![0; read_length(file.len())];
+fn developed(file: &[u8]) -> Result<(Shape, [Plane; 3]), Box<dyn Error>> {
+    let mut samples = zeros(read_length(file.len()))?;
     let shape = read(file, &mut samples)?;
     let count = shape.plane_length();
-    let [mut red, mut green, mut blue] = [(); 3].map(|()| vec![0; count]);
-    let mut map = vec![0; shape.map_length()];
-    let mut work = vec![0; shape.work_length()];
+    let (mut red, mut green, mut blue) = (zeros(count)?, zeros(count)?, zeros(count)?);
+    let mut map = zeros(shape.map_length())?;
+    let mut work = zeros(shape.work_length())?;
     develop(
         shape,
         BLACK,
@@ -30,7 +42,7 @@ fn developed(file: &[u8]) -> Result<(Shape, [Plane; 3]), Refusal> {
         &mut map,
         &mut work,
     )?;
-    let mut clamped = vec![0; count];
+    let mut clamped = zeros(count)?;
     for plane in [&mut red, &mut green, &mut blue] {
         clamp(plane, &mut clamped)?;
         curve(&clamped, plane)?;
@@ -38,6 +50,7 @@ fn developed(file: &[u8]) -> Result<(Shape, [Plane; 3]), Refusal> {
     Ok((shape, [red, green, blue]))
 }
 
+/// A full disk shows where the output is written, at the latest where it is flushed.
 fn print(shape: Shape, [red, green, blue]: &[Plane; 3]) -> std::io::Result<()> {
     let mut out = std::io::BufWriter::new(std::io::stdout().lock());
     writeln!(out, "row col red green blue")?;
@@ -48,16 +61,24 @@ fn print(shape: Shape, [red, green, blue]: &[Plane; 3]) -> std::io::Result<()> {
     out.flush()
 }
 
-fn main() -> Result<ExitCode, std::io::Error> {
-    let Some(path) = std::env::args_os().nth(1) else {
+fn run(path: &Path) -> Result<(), Box<dyn Error>> {
+    let file = std::fs::read(path).map_err(|error| format!("{}: {error}", path.display()))?;
+    let (shape, planes) = developed(&file)?;
+    print(shape, &planes).map_err(|error| format!("standard output: {error}"))?;
+    Ok(())
+}
+
+fn main() -> ExitCode {
+    let mut words = std::env::args_os().skip(1);
+    let (Some(path), None) = (words.next(), words.next()) else {
         eprintln!("usage: develop_frame FILE");
-        return Ok(ExitCode::from(2));
+        return ExitCode::from(2);
     };
-    match developed(&std::fs::read(path)?) {
-        Ok((shape, planes)) => print(shape, &planes).map(|()| ExitCode::SUCCESS),
-        Err(refusal) => {
-            println!("{refusal}");
-            Ok(ExitCode::FAILURE)
+    match run(Path::new(&path)) {
+        Ok(()) => ExitCode::SUCCESS,
+        Err(error) => {
+            eprintln!("{error}");
+            ExitCode::FAILURE
         }
     }
 }
