@@ -58,8 +58,12 @@ soak: need-cargo need-gcc build/lib/libbayer.so
 	@CARGO_TARGET_DIR=build/compare cargo run --quiet --release --manifest-path tests/compare/Cargo.toml --bin soak -- \
 	    "$(CALLS)" "$(SEED)" "$(FROM)"
 
+# what the versions of bench/ are built for: the processor of the library, to compare like with like
+bench: PROCESSOR = x86-64
+
 bench: need-cargo lib
-	@CARGO_TARGET_DIR=build/bench cargo run --quiet --release --manifest-path bench/Cargo.toml --bin speed -- docs/performance.svg
+	@RUSTFLAGS="-C target-cpu=$(PROCESSOR)" CARGO_TARGET_DIR=build/bench \
+	    cargo run --quiet --release --manifest-path bench/Cargo.toml --bin speed -- docs/performance.svg
 
 profile: lib
 	@bench/profile/run $(TEXTURE)

@@ -6,6 +6,7 @@ pub mod measures;
 pub mod optimised;
 pub mod picture;
 pub mod plain;
+pub mod processor;
 mod sites;
 pub mod textures;
 pub mod versions;

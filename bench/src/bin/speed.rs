@@ -1,13 +1,14 @@
 //! Times the proved library beside the other versions and prints tables; docs/PERFORMANCE.md tells what each number is. With a path it
 //! also writes a picture there. The exit status is 0 where the proved develop has at least 1.9 times the plain version's speed on noise,
 //! and on every texture at least 1.5 times the plain version's figure for noise and at least 0.75 times the optimised version's speed,
-//! each by the best runs.
+//! each by the best runs. Nothing is timed where the library and the other versions are built for different processors.
 
 use bench::measures::{
     curve_speeds, develop_speeds, file_speeds, level_speeds, site_costs, together, Spread,
     Together, BRIGHT_ENOUGH, LEVELS, OPTIMISED, PLAIN, PROVED, VERSIONS,
 };
 use bench::picture::{drawn, Chart, Group};
+use bench::processor;
 use bench::textures::TEXTURES;
 use std::process::ExitCode;
 
@@ -195,7 +196,19 @@ fn is_fast_enough(speeds: &Speeds) -> bool {
         && against_optimised.iter().all(|&ratio| ratio >= 0.75)
 }
 
+/// Prints what the versions are built for, and returns whether it is the same.
+fn built_alike() -> bool {
+    let library = processor::of_library();
+    let versions = processor::OF_VERSIONS;
+    println!("built for: proved {library}, the others {versions}");
+    library == versions
+}
+
 fn main() -> ExitCode {
+    if !built_alike() {
+        println!("different processors: nothing is timed");
+        return ExitCode::FAILURE;
+    }
     println!(
         "{SIDE} x {SIDE}, phase 0, black level {}, {RUNS} runs, {LITERAL_RUNS} of the literal version",
         LEVELS[0]
