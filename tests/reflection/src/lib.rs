@@ -7,6 +7,7 @@ mod functions;
 mod marks;
 mod words;
 
+use crates::Source;
 use functions::Placed;
 use std::collections::BTreeSet;
 use std::fs;
@@ -31,11 +32,14 @@ pub fn told(root: &Path) -> Result<String, String> {
         known = names.len();
         names.extend(marks::marking_functions(&placed, &names));
     }
-    Ok(printed(&sources, &placed, &names))
+    let of_each = sources.iter().zip(&placed);
+    Ok(of_each
+        .map(|(source, words)| printed(source, words, &names))
+        .collect())
 }
 
 /// The words of each source, each with the function in which it stands.
-fn placed_words(sources: &[crates::Source]) -> Result<Vec<Vec<Placed<'_>>>, String> {
+fn placed_words(sources: &[Source]) -> Result<Vec<Vec<Placed<'_>>>, String> {
     let placed = sources.iter().map(|source| {
         words::words(&source.text)
             .and_then(code::without_clauses)
@@ -46,20 +50,13 @@ fn placed_words(sources: &[crates::Source]) -> Result<Vec<Vec<Placed<'_>>>, Stri
 }
 
 /// A line for each line of a source in which a word is told.
-fn printed(
-    sources: &[crates::Source],
-    placed: &[Vec<Placed<'_>>],
-    names: &BTreeSet<String>,
-) -> String {
-    let mut text = String::new();
-    for (source, words) in sources.iter().zip(placed) {
-        let lines: Vec<_> = source.text.lines().collect();
-        let found: BTreeSet<_> = marks::marked(words, names)
-            .map(|at| (words[at].word.line, words[at].function()))
-            .collect();
-        for (line, function) in found {
-            text += &format!("{} {function}: {}\n", source.name, lines[line].trim());
-        }
-    }
-    text
+fn printed(source: &Source, words: &[Placed<'_>], names: &BTreeSet<String>) -> String {
+    let lines: Vec<_> = source.text.lines().collect();
+    let found: BTreeSet<_> = marks::marked(words, names)
+        .map(|at| (words[at].word.line, words[at].function()))
+        .collect();
+    let print = |(line, function): (usize, String)| {
+        format!("{} {function}: {}\n", source.name, lines[line].trim())
+    };
+    found.into_iter().map(print).collect()
 }
