@@ -1,12 +1,13 @@
 -- What holds of a shape that passes numbers 1 and 2, and of a count that passes 3. Assumes nothing.
-use Rattle.frame.specs.Calls.{no_refusal}
+use Rattle.answers.specs.Calls.{no_refusal}
 use Rattle.std.specs.Prelude.{◌≡◌, ℕ, ◌*◌, ◌≤◌}
 use Rattle.std.proofs.Common.{mul-le-mul, arith}
 use Rattle.toolkit.specs.Tests.{holds, leb_le, eqb_eq, and_true}
 use Rattle.frame.specs.declared.Shape.{Shape}
-use Rattle.frame.specs.declared.Refusal.TheVariants.{Size, Phase, MosaicLength}
+use Rattle.answers.specs.declared.Refusal.TheVariants.{Size, Phase, MosaicLength}
 use Rattle.frame.specs.Sites.{side_allowed, phase_allowed}
-use Rattle.frame.proofs.Admission.{tested_done, side_high}
+use Rattle.answers.proofs.Admission.{tested_done}
+use Rattle.frame.proofs.Sites.{side_high}
 use Rattle.admission.specs.ShapeTest.{shape_answer, count_answer}
 
 pub record Allowed (shape : Shape) : Type 0 where

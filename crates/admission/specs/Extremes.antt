@@ -3,10 +3,10 @@
 use Rattle.std.specs.Prelude.{◌≡◌, List, [], ◌∷◌, ℕ, zero, suc, ◌+◌, ◌-◌, ◌<◌, ◌≤◌, max, min, leb, ltb, length, get_or, drop, Option, Some, None, MatchOption, Err}
 use Rattle.std.proofs.Common.{arith, drop_of_length-le, drop-cons, add-one}
 use Rattle.toolkit.specs.Tests.{by_test, leb_le, leb_yes, ltb_lt, ltb_ge}
-use Rattle.frame.specs.declared.Refusal.TheVariants.{Sample, UnderBlack}
+use Rattle.answers.specs.declared.Refusal.TheVariants.{Sample, UnderBlack}
 use Rattle.frame.specs.Sites.{highest_sample}
-use Rattle.frame.specs.Calls.{samples_answer, most_under, under_answer, no_refusal}
-use Rattle.frame.proofs.Admission.{samples_done, done_samples, done_under, first_fails}
+use Rattle.answers.specs.Calls.{samples_answer, most_under, under_answer, no_refusal}
+use Rattle.answers.proofs.Admission.{samples_done, done_samples, done_under, first_fails}
 
 unfoldable pub highest_of : List ℕ → ℕ
 highest_of [] = 0

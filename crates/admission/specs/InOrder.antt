@@ -1,10 +1,10 @@
 -- The numbers in order are 1 and 2, 11, 3, 4, 5, 12. Assumes nothing.
 use Rattle.std.specs.Prelude.{◌≡◌, refl, Bool, true, false, ◌&&◌, List, ℕ, ◌*◌, eqb, length}
 use Rattle.frame.specs.declared.Shape.{Shape}
-use Rattle.frame.specs.declared.Refusal.{Refusal}
-use Rattle.frame.specs.declared.Refusal.TheVariants.{Size, Phase, MosaicLength, BufferLength}
+use Rattle.answers.specs.declared.Refusal.{Refusal}
+use Rattle.answers.specs.declared.Refusal.TheVariants.{Size, Phase, MosaicLength, BufferLength}
 use Rattle.frame.specs.Sites.{frame, side_allowed, phase_allowed}
-use Rattle.frame.specs.Calls.{tested, and_then, samples_answer, answer_in_order, Answer, no_refusal}
+use Rattle.answers.specs.Calls.{tested, and_then, samples_answer, answer_in_order, Answer, no_refusal}
 use Rattle.admission.specs.ShapeTest.{shape_answer, count_answer}
 
 -- a test, and then the rest

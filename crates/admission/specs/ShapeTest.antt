@@ -1,9 +1,9 @@
 -- The tests of a shape. Definitions alone; their law is in `InOrder`. Assumes nothing.
 use Rattle.std.specs.Prelude.{Bool, ◌&&◌, ℕ, ◌*◌, eqb}
 use Rattle.frame.specs.declared.Shape.{Shape}
-use Rattle.frame.specs.declared.Refusal.TheVariants.{Size, Phase, MosaicLength}
+use Rattle.answers.specs.declared.Refusal.TheVariants.{Size, Phase, MosaicLength}
 use Rattle.frame.specs.Sites.{side_allowed, phase_allowed}
-use Rattle.frame.specs.Calls.{tested, Answer, no_refusal}
+use Rattle.answers.specs.Calls.{tested, Answer, no_refusal}
 
 -- W, H and the phase are allowed
 unfoldable pub shape_allowed : Shape → Bool

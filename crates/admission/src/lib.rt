@@ -3,11 +3,12 @@
 
 ghost use Rattle.std.specs.Prelude.{◌≡◌, ◌*◌, ◌≤◌, length, MatchOption};
 ghost use Rattle.frame.specs.Sites.{side_allowed};
-ghost use Rattle.frame.specs.Calls.{samples_answer, black_answer, under_answer, no_refusal};
+ghost use Rattle.answers.specs.Calls.{samples_answer, black_answer, under_answer, no_refusal};
 ghost use Rattle.admission.specs.ShapeTest.{shape_allowed, shape_answer, count_answer};
 ghost use Rattle.admission.specs.Extremes.{highest_of, lowest_of, FoundOutside};
 
-use frame::{Answer, Refusal, Shape};
+use answers::{Answer, Refusal};
+use frame::Shape;
 
 // Whether a count of rows or columns is from 2 to 4,096.
 #[tactic(auto, unfolding(frame::specs::Sites::side_allowed))]
@@ -48,7 +49,7 @@ pub fn shape_in_range(shape: Shape) -> bool
 }
 
 // Number 11.
-#[tactic(auto, unfolding(frame::specs::Calls::black_answer, frame::specs::Calls::highest_black))]
+#[tactic(auto, unfolding(answers::specs::Calls::black_answer, answers::specs::Calls::highest_black))]
 pub fn test_black(black: usize) -> Answer
     ensures { result ≡ black_answer black }
 {

@@ -1,6 +1,6 @@
 -- What the exports return: the document's number, place and values of an answer. Definitions alone. Assumes nothing.
 use Rattle.std.specs.Prelude.{◌≡◌, get_or}
-use Rattle.frame.specs.Calls.{returned, returned_by_read, values_of_read, Answer, ReadAnswer}
+use Rattle.answers.specs.Calls.{returned, returned_by_read, values_of_read, Answer, ReadAnswer}
 use Rattle.bayer.specs.declared.Returned.{Returned}
 use Rattle.bayer.specs.declared.ReadReturned.{ReadReturned}
 

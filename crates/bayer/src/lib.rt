@@ -3,7 +3,7 @@
 
 ghost use Rattle.std.specs.Prelude.{◌≡◌, length, Err};
 ghost use Rattle.frame.specs.Sites.{frame as frame_of, Colour};
-ghost use Rattle.frame.specs.Calls.{develop_answer, clamp_answer, curve_answer, clamped as clamped_plane, after};
+ghost use Rattle.answers.specs.Calls.{develop_answer, clamp_answer, curve_answer, clamped as clamped_plane, after};
 ghost use Rattle.tone_curve.specs.ToneCurve.{curved as curved_plane};
 ghost use Rattle.method.specs.Green.{decision_map};
 ghost use Rattle.method.specs.Planes.{plane};
@@ -11,7 +11,8 @@ ghost use Rattle.develop.specs.LentBuffers.{lengths, KeptOnRefusal};
 ghost use Rattle.frame_file.specs.FrameFile.{write_answer, file_after_write, read_answer, samples_after_read};
 ghost use Rattle.bayer.specs.Exports.{Exported, ReadExported};
 
-use frame::{Answer, ReadAnswer, Refusal, Shape};
+use answers::{Answer, ReadAnswer, Refusal};
+use frame::Shape;
 
 // 0, 0 on success, otherwise the refusal's number and place: numbers, since C reads them.
 #[repr(C)]
@@ -38,8 +39,8 @@ impl From<Refusal> for Returned {
 
     fn from(why: Refusal) -> Returned {
         Returned {
-            number: frame::number_of(why),
-            place: frame::place_of(why),
+            number: answers::number_of(why),
+            place: answers::place_of(why),
         }
     }
 }

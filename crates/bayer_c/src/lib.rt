@@ -4,7 +4,7 @@
 
 ghost use Rattle.std.specs.Prelude.{◌≡◌, length};
 ghost use Rattle.frame.specs.Sites.{frame as frame_of, Colour};
-ghost use Rattle.frame.specs.Calls.{develop_answer, clamp_answer, curve_answer, clamped as clamped_plane, after};
+ghost use Rattle.answers.specs.Calls.{develop_answer, clamp_answer, curve_answer, clamped as clamped_plane, after};
 ghost use Rattle.tone_curve.specs.ToneCurve.{curved as curved_plane};
 ghost use Rattle.method.specs.Green.{decision_map};
 ghost use Rattle.method.specs.Planes.{plane};

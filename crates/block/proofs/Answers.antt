@@ -1,12 +1,12 @@
 -- What the block checker answers at each of its tests. Assumes nothing.
-use Rattle.frame.specs.Calls.{no_refusal}
+use Rattle.answers.specs.Calls.{no_refusal}
 use Rattle.std.specs.Prelude.{Err}
 use mathlib.Core.Path.{◌≡◌, sym, ◌∙◌}
 use mathlib.Core.List.{List}
 use Prim.Native.Nat.{ℕ}
 use borrow.Author.Tests.{ne_eqb}
 use Rattle.toolkit.specs.Tests.{eqb_yes}
-use Rattle.frame.specs.declared.Refusal.TheVariants.{Check, BlockNumber}
+use Rattle.answers.specs.declared.Refusal.TheVariants.{Check, BlockNumber}
 use Rattle.frame_file.specs.Lists.{part}
 use Rattle.frame_file.specs.FrameFile.{little_endian, block_number, check, stored_check, check_holds, number_holds}
 use Rattle.block.specs.BlockTest.{block_answer}

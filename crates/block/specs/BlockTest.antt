@@ -1,7 +1,7 @@
 -- What the block checker answers. Definitions alone. Assumes nothing.
 use Rattle.std.specs.Prelude.{List, ℕ}
-use Rattle.frame.specs.declared.Refusal.TheVariants.{Check, BlockNumber}
-use Rattle.frame.specs.Calls.{tested, Answer, no_refusal}
+use Rattle.answers.specs.declared.Refusal.TheVariants.{Check, BlockNumber}
+use Rattle.answers.specs.Calls.{tested, Answer, no_refusal}
 use Rattle.frame_file.specs.FrameFile.{check_holds, number_holds}
 
 -- "7, block: check differs", then "9, block: block number differs", the tests that every block has

@@ -6,7 +6,7 @@ ghost use Rattle.frame_file.specs.Lists.{part};
 ghost use Rattle.frame_file.specs.FrameFile.{little_endian, little_endian_bytes, check, has_tag, block as block_of, payload as payload_of, block_count};
 ghost use Rattle.block.specs.BlockTest.{block_answer};
 
-use frame::{Answer, Refusal};
+use answers::{Answer, Refusal};
 
 // BAYR in ASCII: the reader compares it, the writer writes it.
 pub const TAG: [u8; 4] = *b"BAYR";

@@ -1,7 +1,7 @@
 -- The answers at black levels are as told, by one computation. Assumes nothing.
 use Rattle.std.specs.Prelude.{◌≡◌, refl}
 use Rattle.frame.specs.Sites.{side_allowed, phase_allowed, highest_sample}
-use Rattle.frame.specs.Calls.{first_failing, samples_answer, answer_in_order, highest_black, black_answer, most_under, under_answer, lengths_fit, lengths_allowed, develop_answer}
+use Rattle.answers.specs.Calls.{first_failing, samples_answer, answer_in_order, highest_black, black_answer, most_under, under_answer, lengths_fit, lengths_allowed, develop_answer}
 use Rattle.cases.specs.Row.{all_given, all_told}
 use Rattle.cases.specs.AnswerCases.{answer_cases}
 

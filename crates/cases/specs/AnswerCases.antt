@@ -2,8 +2,8 @@
 -- Definitions alone. Assumes nothing.
 use Rattle.std.specs.Prelude.{List, [], ◌∷◌, ℕ}
 use Rattle.frame.specs.Sites.{Frame}
-use Rattle.frame.specs.Calls.{Returned, returned, develop_answer}
-use Rattle.frame.specs.declared.Lengths.{Lengths}
+use Rattle.answers.specs.Calls.{Returned, returned, develop_answer}
+use Rattle.answers.specs.declared.Lengths.{Lengths}
 use Rattle.cases.specs.Row.{Value, naturals, Case}
 use Rattle.cases.specs.GlazeCases.{small_frame}
 

@@ -11,8 +11,8 @@ use Rattle.method.specs.Gradients.{Mosaic, mosaic, around_in, samples_around, Fo
 use Rattle.method.specs.Green.{Direction, horizontal, vertical, diagonal, estimate, first_pass, outcome_at, first_pass_or, green_or, less_eight, trial_difference, second_pass, second_pass_at, decided, decision_code, chroma_decision_at, decision_of, decision_at, decision_entry, decision_map}
 use Rattle.method.proofs.GreenLaws.{green_is_decided}
 use Rattle.method.specs.Planes.{weighted_mean, green_difference, straight, mean_two_off, fused, final_difference, same, corners, corner_gradients, chroma_site_difference, colour_difference, green_quarters, quarters, final_round, output, less_black, plane}
-use Rattle.method.specs.Comparison.{trading}
-use Rattle.method.proofs.MosaicChanges.{Matches, Sides, around_changed}
+use Rattle.correspondence.specs.Comparison.{trading}
+use Rattle.correspondence.proofs.MosaicChanges.{Matches, Sides, around_changed}
 
 -- ---- the stages: each as method's definition of the same quantity, read off what the stages before it gave
 

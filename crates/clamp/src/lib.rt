@@ -2,12 +2,12 @@
 #![tactic(auto)]
 
 ghost use Rattle.std.specs.Prelude.{◌≡◌, length};
-ghost use Rattle.frame.specs.Calls.{held, clamped as clamped_plane, clamp_answer, after};
+ghost use Rattle.answers.specs.Calls.{held, clamped as clamped_plane, clamp_answer, after};
 
-use frame::{Answer, Refusal};
+use answers::{Answer, Refusal};
 
 // A number held to 0..1,023.
-#[tactic(auto, unfolding(frame::specs::Calls::held, frame::specs::Sites::highest_sample))]
+#[tactic(auto, unfolding(answers::specs::Calls::held, frame::specs::Sites::highest_sample))]
 fn held_number(v: i32) -> i32
     ensures { result ≡ held v }
 {
@@ -15,7 +15,7 @@ fn held_number(v: i32) -> i32
 }
 
 // Fills `clamped` with the numbers of `plane`, each held to 0..1,023.
-#[tactic(auto, unfolding(frame::specs::Calls::clamped))]
+#[tactic(auto, unfolding(answers::specs::Calls::clamped))]
 fn hold_all(plane: &[i32], clamped: &mut [i32])
     requires { length clamped.old ≡ length plane.now }
     ensures { clamped.new ≡ clamped_plane plane.now }
@@ -26,7 +26,7 @@ fn hold_all(plane: &[i32], clamped: &mut [i32])
 }
 
 // Clamps a plane of any numbers into one of equal length. A refusal leaves `clamped` as it was.
-#[tactic(auto, unfolding(frame::specs::Calls::clamp_answer))]
+#[tactic(auto, unfolding(answers::specs::Calls::clamp_answer))]
 pub fn clamp(plane: &[i32], clamped: &mut [i32]) -> Answer
     ensures answer { result ≡ clamp_answer (length plane.now) (length clamped.old) }
     ensures left { clamped.new ≡ after result (clamped_plane plane.now) clamped.old }

@@ -6,10 +6,10 @@ use Rattle.std.proofs.Common.{◌∙◌, ap, arith, add-one}
 use Rattle.std.proofs.lemmas.List.{get_or-map, length-map}
 use Rattle.std.specs.Int.Signed.{lt_z, lt_z_no, ≤ℤ_refl}
 use Rattle.toolkit.specs.Tests.{by_test, and_true, holds, leb_yes}
-use Rattle.frame.specs.declared.Refusal.TheVariants.{Unclamped}
+use Rattle.answers.specs.declared.Refusal.TheVariants.{Unclamped}
 use Rattle.frame.specs.Sites.{highest_sample}
-use Rattle.frame.specs.Calls.{Answer, first_failing, held, clamped, unclamped, unclamped_answer, Clamped, no_refusal}
-use Rattle.frame.proofs.Clamped.{thirteen_in_figures}
+use Rattle.answers.specs.Calls.{Answer, first_failing, held, clamped, unclamped, unclamped_answer, Clamped, no_refusal}
+use Rattle.answers.proofs.Clamped.{thirteen_in_figures}
 
 -- every number passes the test, and so does what comes with them
 abbrev every_passes_with : Bool → List ℤ → Bool

@@ -5,10 +5,10 @@ mod table;
 
 ghost use Rattle.std.specs.Prelude.{◌≡◌, ◌≤◌, ◌&&◌, not, true, length};
 ghost use Rattle.std.specs.List.{fold, position_from};
-ghost use Rattle.frame.specs.Calls.{unclamped, unclamped_answer, curve_answer, Clamped, after, no_refusal};
+ghost use Rattle.answers.specs.Calls.{unclamped, unclamped_answer, curve_answer, Clamped, after, no_refusal};
 ghost use Rattle.tone_curve.specs.ToneCurve.{curve_entry, curved_number, curved as curved_plane};
 
-use frame::{Answer, Refusal};
+use answers::{Answer, Refusal};
 use table::CURVE;
 
 // Entry v of the curve.
@@ -29,7 +29,7 @@ fn curved_number(v: i32) -> i32
 }
 
 // Whether a number is below 0 or above 1,023.
-#[tactic(auto, unfolding(frame::specs::Calls::unclamped, frame::specs::Sites::highest_sample))]
+#[tactic(auto, unfolding(answers::specs::Calls::unclamped, frame::specs::Sites::highest_sample))]
 fn is_unclamped(v: i32) -> bool
     ensures { result ≡ unclamped v }
 {
@@ -77,7 +77,7 @@ fn curve_all(plane: &[i32], curved: &mut [i32])
 }
 
 // Applies the curve to a clamped plane, into one of equal length. A refusal leaves `curved` as it was.
-#[tactic(auto, unfolding(frame::specs::Calls::curve_answer))]
+#[tactic(auto, unfolding(answers::specs::Calls::curve_answer))]
 pub fn curve(plane: &[i32], curved: &mut [i32]) -> Answer
     ensures answer { result ≡ curve_answer plane.now (length curved.old) }
     ensures left { curved.new ≡ after result (curved_plane plane.now) curved.old }

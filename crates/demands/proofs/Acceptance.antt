@@ -5,11 +5,11 @@ use Rattle.std.proofs.Common.{sym, ◌∙◌, ap, arith}
 use Rattle.toolkit.specs.Tests.{holds, leb_le, leb_yes, eqb_eq, eqb_yes, and_true}
 use Rattle.toolkit.specs.Tables.{tabulate, length_tabulate}
 use Rattle.frame.specs.Sites.{Frame, red, green, blue}
-use Rattle.frame.specs.Calls.{returned, lengths_fit, lengths_allowed, develop_answer, after, AdmittedAt, Answer}
+use Rattle.answers.specs.Calls.{returned, lengths_fit, lengths_allowed, develop_answer, after, AdmittedAt, Answer}
 use Rattle.method.specs.Green.{decision_map}
 use Rattle.method.specs.Planes.{plane}
-use Rattle.method.specs.Comparison.{Accepted}
-use Rattle.method.proofs.Acceptance as method
+use Rattle.correspondence.specs.Comparison.{Accepted}
+use Rattle.correspondence.proofs.Acceptance as method
 use Rattle.develop.specs.LentBuffers.{KeptOnRefusal}
 use Rattle.demands.specs.WhatCallsLeave.{Buffers, buffers, lengths_of, LengthsAllowed, DevelopLeaves, AcceptedByDevelop, Developed}
 

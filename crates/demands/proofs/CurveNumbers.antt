@@ -5,7 +5,7 @@ use Rattle.std.specs.Int.Signed.{lt_z, lt_z_yes}
 use Rattle.toolkit.specs.Tests.{is_true, holds, leb_yes, eqb_eq, and_true}
 use Rattle.toolkit.specs.Differences.{as_difference}
 use Rattle.toolkit.specs.Orders.{to_naturals}
-use Rattle.frame.specs.Calls.{Clamped}
+use Rattle.answers.specs.Calls.{Clamped}
 use Rattle.tone_curve.specs.ToneCurve.{satisfies, may_be_entry, curved_number}
 use Rattle.tone_curve.proofs.OneCurve.{entry_follows, the_entry, never_below_one_before, never_below_its_number, entry_at_most}
 use Rattle.demands.specs.ToneCurve.{square, FollowsRule}

@@ -4,9 +4,9 @@
 use Rattle.std.specs.Prelude.{◌≡◌, refl, List, ℕ, eqb, ℤ, Err, Ok}
 use Rattle.std.proofs.Common.{◌∙◌, ap}
 use Rattle.std.proofs.Math.ListN.{length}
-use Rattle.frame.specs.declared.Refusal.TheVariants.{BufferLength}
+use Rattle.answers.specs.declared.Refusal.TheVariants.{BufferLength}
 use Rattle.frame.specs.Sites.{Frame}
-use Rattle.frame.specs.Calls.{success, returned, returned_by_read, lengths_allowed, develop_answer, clamp_answer, Answer, ReadAnswer, no_refusal}
+use Rattle.answers.specs.Calls.{success, returned, returned_by_read, lengths_allowed, develop_answer, clamp_answer, Answer, ReadAnswer, no_refusal}
 use Rattle.frame_file.specs.FrameFile.{file_length, Reading, accepted, refused, answer_of, samples_of, reading, read_answer, samples_after_read, write_answer, file_after_write}
 use Rattle.demands.specs.WhatCallsLeave.{Buffers, buffers, lengths_of, LengthsAllowed, DevelopLeaves, ClampLeaves, CurveLeaves, ReadLeaves, WriteLeaves}
 use Rattle.demands.proofs.Acceptance.{lengths_yes, yes_lengths}

@@ -4,8 +4,8 @@ use Rattle.std.proofs.Math.Path.{refl, ap}
 use Rattle.std.proofs.Common.{sym, ◌∙◌}
 use Rattle.toolkit.specs.Raster.{length_raster, getD_raster}
 use Rattle.frame.specs.Sites.{Frame, Colour, red, green, blue}
-use Rattle.frame.specs.Calls.{success, returned, returned_by_read, Answer, ReadAnswer}
-use Rattle.frame.proofs.Admission.{refused_not_done, returned_done}
+use Rattle.answers.specs.Calls.{success, returned, returned_by_read, Answer, ReadAnswer}
+use Rattle.answers.proofs.Admission.{refused_not_done, returned_done}
 use Rattle.method.specs.Gradients.{mosaic}
 use Rattle.method.specs.Green.{decision_entry, decision_map}
 use Rattle.method.specs.Planes.{output, less_black, plane}

@@ -9,11 +9,12 @@ use Rattle.std.proofs.Math.Path.{ap}
 use mathlib.Core.List.{List, [], ◌∷◌}
 use Rattle.std.proofs.Math.ListN.{get_or}
 use Rattle.frame.specs.Sites.{Frame, Colour, red, green, blue, sample, colour, highest_sample, side_allowed, phase_allowed}
-use Rattle.frame.specs.Calls.{first_failing, samples_answer, answer_in_order, highest_black, black_answer, most_under, under_answer, lengths_fit, lengths_allowed, develop_answer, success, returned, NoneUnder}
+use Rattle.answers.specs.Calls.{first_failing, samples_answer, answer_in_order, highest_black, black_answer, most_under, under_answer, lengths_fit, lengths_allowed, develop_answer, success, returned, NoneUnder}
 use Rattle.method.specs.Green.{decision_map}
-use Rattle.method.specs.Comparison.{number_at, entry_at, Change, left_right, top_bottom, transposing, trading, changed, changed_by, row_after, column_after, name_after, count_transposes, transposes_oddly, exchanged_code, code_after, brightened, KeepsRange, SumsAreSamples, taken_off, NoneBelow}
-use Rattle.method.proofs.Acceptance.{accepted_by_any}
-use Rattle.method.proofs.Demand3 as method
+use Rattle.method.specs.Planes.{number_at, entry_at}
+use Rattle.correspondence.specs.Comparison.{Change, left_right, top_bottom, transposing, trading, changed, changed_by, row_after, column_after, name_after, count_transposes, transposes_oddly, exchanged_code, code_after, brightened, KeepsRange, SumsAreSamples, taken_off, NoneBelow}
+use Rattle.correspondence.proofs.Acceptance.{accepted_by_any}
+use Rattle.correspondence.proofs.Demand3 as method
 use Rattle.demands.specs.WhatCallsLeave.{AcceptedByDevelop, Developed, number_left, entry_left}
 use Rattle.demands.proofs.Acceptance.{accepted_defined, defined_accepted, developed_accepted}
 use Rattle.demands.proofs.Demand2.{planes_left, decisions_left}

@@ -10,7 +10,7 @@ use borrow.Fn.World.{World, ArgsD, ResD, In}
 use borrow.Fn.Kinds.{ended_of}
 use denote.Triple.Clauses.{AtExit}
 use Rattle.frame.specs.Sites.{Frame, frame}
-use Rattle.frame.specs.Calls.{develop_answer, clamp_answer, curve_answer}
+use Rattle.answers.specs.Calls.{develop_answer, clamp_answer, curve_answer}
 use Rattle.frame_file.specs.FrameFile.{read_answer, write_answer}
 use Rattle.bayer.specs.declared.Returned.{Returned}
 use Rattle.bayer.specs.declared.ReadReturned.{ReadReturned}

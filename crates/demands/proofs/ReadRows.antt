@@ -3,10 +3,10 @@ use Rattle.std.specs.Prelude.{◌≡◌, Bool, List, [], ◌∷◌, get_or, drop
 use Rattle.std.proofs.Common.{ap, subst, sym, ◌∙◌, ⊎_elim, eq-or-lt_of_le, le_of_suc-le-suc, arith, length-drop, get_or-drop}
 use Prim.Native.Nat.{ℕ, zero, suc, ◌+◌, ◌*◌, ◌-◌, ◌%◌, ◌<◌, ◌≤◌}
 use Rattle.std.proofs.Math.ListN.{length}
-use Rattle.frame.specs.declared.Refusal.{Refusal}
-use Rattle.frame.specs.declared.Refusal.TheVariants.{BufferLength, FileLength, Check, Header, BlockNumber, Filler}
+use Rattle.answers.specs.declared.Refusal.{Refusal}
+use Rattle.answers.specs.declared.Refusal.TheVariants.{BufferLength, FileLength, Check, Header, BlockNumber, Filler}
 use Rattle.frame.specs.Sites.{Frame, phase_allowed}
-use Rattle.frame.specs.Calls.{number_and_place, returned_by_read}
+use Rattle.answers.specs.Calls.{number_and_place, returned_by_read}
 use Rattle.frame_file.specs.Lists.{part, all_zero, same_list, same_list_self, same_list_equal}
 use Rattle.frame_file.specs.FrameFile.{sample_count, block, block_number, check, stored_check, tag, has_tag, header, header_filler, payload, block_filler, block_count, file_length, unpacked_payload, stored_frame, Reading, refused, answer_of, tested, length_allowed, check_holds, number_holds, header_allowed, filler_holds, later_blocks, reading}
 use Rattle.frame_file.proofs.BlockCount.{some_blocks}

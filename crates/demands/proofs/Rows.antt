@@ -4,10 +4,10 @@ use Rattle.std.proofs.Common.{subst, arith, inl, inr}
 use Rattle.std.specs.Int.Signed.{lt_z}
 use Rattle.std.proofs.lemmas.Int.{by_lt_z}
 use mathlib.Core.List.{List, [], ◌∷◌}
-use Rattle.frame.specs.declared.Refusal.{Refusal}
-use Rattle.frame.specs.declared.Refusal.TheVariants.{Size, Phase, MosaicLength, BufferLength, Sample, BlackLevel, UnderBlack, Unclamped}
+use Rattle.answers.specs.declared.Refusal.{Refusal}
+use Rattle.answers.specs.declared.Refusal.TheVariants.{Size, Phase, MosaicLength, BufferLength, Sample, BlackLevel, UnderBlack, Unclamped}
 use Rattle.frame.specs.Sites.{Frame, side_allowed, phase_allowed, highest_sample}
-use Rattle.frame.specs.Calls.{Returned, number_and_place, returned, tested, and_then, first_failing, samples_answer, answer_in_order, highest_black, black_answer, most_under, under_answer, unclamped, unclamped_answer, curve_answer, Answer, no_refusal, Clamped}
+use Rattle.answers.specs.Calls.{Returned, number_and_place, returned, tested, and_then, first_failing, samples_answer, answer_in_order, highest_black, black_answer, most_under, under_answer, unclamped, unclamped_answer, curve_answer, Answer, no_refusal, Clamped}
 use Rattle.demands.specs.Conditions.{Decides, same_decides, both_decide, equal_decides, at_most_decides, not_below_decides, side_decides, by_condition}
 use Rattle.demands.specs.Rows.{SidesAllowed, RowOfWrite, RowOfDevelop, RowOfCurve, done, number_1, number_11, number_12, number_13, number_2, number_3, number_4, number_5}
 

@@ -6,11 +6,11 @@ use Rattle.std.proofs.Math.Arith.{digits_lt}
 use Rattle.std.proofs.lemmas.List.{get_or-map, length-map}
 use Rattle.toolkit.specs.Tests.{eqb_yes}
 use Rattle.frame.specs.Sites.{Frame, Colour, red, green, blue}
-use Rattle.frame.specs.Calls.{success, returned, clamp_answer, held, clamped, unclamped_answer, after, Answer, Clamped}
-use Rattle.frame.proofs.Admission.{returned_done}
-use Rattle.frame.proofs.Clamped.{thirteen_in_figures, equal_lengths, curve_done}
-use Rattle.method.specs.Comparison.{Change, changed_by, row_after, column_after, name_after}
-use Rattle.method.proofs.ChangeLists.{green_keeps_name}
+use Rattle.answers.specs.Calls.{success, returned, clamp_answer, held, clamped, unclamped_answer, after, Answer, Clamped}
+use Rattle.answers.proofs.Admission.{returned_done}
+use Rattle.answers.proofs.Clamped.{thirteen_in_figures, equal_lengths, curve_done}
+use Rattle.correspondence.specs.Comparison.{Change, changed_by, row_after, column_after, name_after}
+use Rattle.correspondence.proofs.ChangeLists.{green_keeps_name}
 use Rattle.tone_curve.specs.ToneCurve.{curved_number, curved}
 use Rattle.curve.proofs.Plane.{held_clamped, clamped_passes}
 use Rattle.demands.specs.WhatCallsLeave.{plane_of, Developed, number_left, ClampLeaves, CurveLeaves, PlaneClamped, PlaneCurved, DevelopedCurved, curved_left}

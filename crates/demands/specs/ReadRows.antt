@@ -3,7 +3,7 @@
 use Rattle.std.specs.Prelude.{◌≡◌, List, get_or}
 use Prim.Native.Nat.{ℕ, ◌+◌, ◌*◌, ◌-◌, ◌%◌, ◌<◌, ◌≤◌}
 use Rattle.std.proofs.Math.ListN.{length}
-use Rattle.frame.specs.Calls.{Returned, success}
+use Rattle.answers.specs.Calls.{Returned, success}
 use Rattle.frame_file.specs.Lists.{part}
 use Rattle.frame_file.specs.FrameFile.{sample_count, block, block_number, check, stored_check, tag, header_filler, payload, block_filler, block_count, file_length, unpacked_payload, stored_frame}
 use Rattle.demands.specs.Rows.{row, SidesAllowed}

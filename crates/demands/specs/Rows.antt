@@ -2,7 +2,7 @@
 -- `ReadRows` has the rows of read. Definitions alone. Assumes nothing.
 use Rattle.std.specs.Prelude.{◌≡◌, ◌⊎◌, List, ℕ, ◌+◌, ◌*◌, ◌<◌, ◌≤◌, ℤ, pos, ◌<ℤ◌, length, get_or}
 use Rattle.frame.specs.Sites.{Frame}
-use Rattle.frame.specs.Calls.{Returned, success, Clamped}
+use Rattle.answers.specs.Calls.{Returned, success, Clamped}
 
 abbrev pub row : ℕ → ℕ → Returned
 row number place = record { number = number; place = place }

@@ -2,8 +2,8 @@
 -- Definitions alone. Assumes nothing.
 use Rattle.std.specs.Prelude.{◌≡◌, List, ℕ, ◌+◌, ◌*◌, ◌≤◌, ℤ, pos, length, get_or}
 use Rattle.frame.specs.Sites.{Frame, Colour, red, green, blue}
-use Rattle.frame.specs.Calls.{success, returned, develop_answer, clamp_answer, clamped, curve_answer, after, Answer, ReadAnswer}
-use Rattle.frame.specs.declared.Lengths.{Lengths}
+use Rattle.answers.specs.Calls.{success, returned, develop_answer, clamp_answer, clamped, curve_answer, after, Answer, ReadAnswer}
+use Rattle.answers.specs.declared.Lengths.{Lengths}
 use Rattle.method.specs.Green.{decision_map}
 use Rattle.method.specs.Planes.{plane}
 use Rattle.tone_curve.specs.ToneCurve.{curved}

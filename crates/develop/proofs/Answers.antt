@@ -6,12 +6,12 @@ use mathlib.Core.List.{List}
 use Prim.Native.Nat.{ℕ, ◌≤◌}
 use lib.ListN.{length}
 use Rattle.frame.specs.declared.Shape.{Shape}
-use Rattle.frame.specs.declared.Refusal.{Refusal}
-use Rattle.frame.specs.declared.Refusal.TheVariants.{BufferLength}
+use Rattle.answers.specs.declared.Refusal.{Refusal}
+use Rattle.answers.specs.declared.Refusal.TheVariants.{BufferLength}
 use Rattle.frame.specs.Sites.{frame}
-use Rattle.frame.specs.Calls.{tested, and_then, samples_answer, black_answer, under_answer, lengths_fit, lengths_allowed, develop_answer, Answer, no_refusal}
-use Rattle.frame.specs.declared.Lengths.{Lengths}
-use Rattle.frame.proofs.Admission.{and_then_done, eleven_in_figures}
+use Rattle.answers.specs.Calls.{tested, and_then, samples_answer, black_answer, under_answer, lengths_fit, lengths_allowed, develop_answer, Answer, no_refusal}
+use Rattle.answers.specs.declared.Lengths.{Lengths}
+use Rattle.answers.proofs.Admission.{and_then_done, eleven_in_figures}
 use Rattle.admission.specs.ShapeTest.{shape_answer, count_answer}
 use Rattle.admission.specs.InOrder.{in_order}
 use Rattle.admission.specs.Allowed.{count_passes}

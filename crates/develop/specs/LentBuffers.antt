@@ -1,7 +1,7 @@
 -- The buffers that develop is lent. Definitions alone. Assumes nothing.
 use Rattle.std.specs.Prelude.{◌≡◌, List, ℕ, ℤ, length, Err, Ok}
-use Rattle.frame.specs.Calls.{Answer}
-use Rattle.frame.specs.declared.Lengths.{Lengths}
+use Rattle.answers.specs.Calls.{Answer}
+use Rattle.answers.specs.declared.Lengths.{Lengths}
 
 -- the lengths of the planes, of the map and of the work buffer
 abbrev pub lengths : List ℤ → List ℤ → List ℤ → List ℕ → List ℤ → Lengths

@@ -4,9 +4,10 @@ use Rattle.std.specs.Prelude.{◌≡◌, ℕ, ◌*◌, ◌≤◌, leb, eqb}
 use Rattle.std.proofs.Common.{arith}
 use Rattle.toolkit.specs.Tests.{is_true, leb_le, eqb_eq, and_true}
 use Rattle.frame.specs.Sites.{Frame, highest_sample}
-use Rattle.frame.specs.Calls.{highest_black, lengths_fit, lengths_allowed, develop_answer, Admitted, no_refusal}
-use Rattle.frame.specs.declared.Lengths.{Lengths}
-use Rattle.frame.proofs.Admission.{side_low, side_high, phase_high, sample_high, done_admitted}
+use Rattle.answers.specs.Calls.{highest_black, lengths_fit, lengths_allowed, develop_answer, Admitted, no_refusal}
+use Rattle.answers.specs.declared.Lengths.{Lengths}
+use Rattle.frame.proofs.Sites.{side_low, side_high, phase_high}
+use Rattle.answers.proofs.Admission.{sample_high, done_admitted}
 use Rattle.positions.specs.Taken.{Taken}
 
 pub record Ready (f : Frame) (b : ℕ) (l : Lengths) : Type 0 where

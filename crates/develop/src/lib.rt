@@ -3,17 +3,18 @@
 
 ghost use Rattle.std.specs.Prelude.{◌≡◌, ◌*◌, ◌≤◌};
 ghost use Rattle.frame.specs.Sites.{frame as frame_of, Colour};
-ghost use Rattle.frame.specs.Calls.{and_then, black_answer, lengths_fit, develop_answer, after};
+ghost use Rattle.answers.specs.Calls.{and_then, black_answer, lengths_fit, develop_answer, after};
 ghost use Rattle.method.specs.Green.{decision_map};
 ghost use Rattle.method.specs.Planes.{plane};
 ghost use Rattle.admission.specs.ShapeTest.{shape_answer, count_answer};
 ghost use Rattle.develop.specs.LentBuffers.{lengths, KeptOnRefusal};
 ghost use Rattle.develop.specs.Ready.{Ready};
 
-use frame::{Answer, Lengths, Refusal, Shape};
+use answers::{Answer, Lengths, Refusal};
+use frame::Shape;
 
 // Whether three planes and the map have `count` entries each, and the work buffer 4·count or more.
-#[tactic(auto, unfolding(frame::specs::Calls::lengths_fit))]
+#[tactic(auto, unfolding(answers::specs::Calls::lengths_fit))]
 fn lengths_right(count: usize, lengths: Lengths) -> bool
     requires { count ≤ 16777216 }
     ensures { result ≡ lengths_fit count lengths }

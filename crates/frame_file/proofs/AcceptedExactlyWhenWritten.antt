@@ -3,7 +3,7 @@
 use Rattle.std.specs.Prelude.{◌≡◌, ◌↔◌, List, ℕ, ◌-◌, ◌≤◌}
 use Rattle.std.proofs.Common.{◌∙◌, ap, subst, arith}
 use Rattle.frame.specs.Sites.{Frame}
-use Rattle.frame.specs.Calls.{Admitted}
+use Rattle.answers.specs.Calls.{Admitted}
 use Rattle.frame_file.specs.Lists.{Below}
 use Rattle.frame_file.specs.FrameFile.{sample_count, block_count, written_file, stored_frame, accepted, reading}
 use Rattle.frame_file.proofs.ReadTests.{later_blocks_passed, later_blocks_accepted, read_after_header, header_of_accepted}

@@ -8,7 +8,7 @@ use Rattle.std.proofs.Math.Nat.{le_of_suc-le-suc}
 use native.Mathlib.Omega.{arith}
 use Rattle.toolkit.specs.Tests.{and_true}
 use Rattle.frame.specs.Sites.{highest_sample}
-use Rattle.frame.specs.Calls.{Admitted}
+use Rattle.answers.specs.Calls.{Admitted}
 use Rattle.frame_file.specs.Lists.{part, length_part, joined, joined_cong, joined_parts, all_zero, Below, below_part, below_joined}
 use Rattle.frame_file.specs.FrameFile.{stored_samples, sample_count, block, payload, block_filler, block_samples, block_count, file_length, unpacked_payload, written_block, written_file, stored_frame, filler_holds}
 use Rattle.frame_file.proofs.BlockCount.{some_blocks}

@@ -9,9 +9,9 @@ use Rattle.std.proofs.Math.Dec.{leb}
 use Rattle.std.proofs.Math.ListN.{length, get_or, length-set}
 use Rattle.std.proofs.Math.Seq.{get_or-set_other}
 use Rattle.toolkit.specs.Tests.{by_test, eqb_eq, leb_le, leb_gt}
-use Rattle.frame.specs.declared.Refusal.TheVariants.{Check}
+use Rattle.answers.specs.declared.Refusal.TheVariants.{Check}
 use Rattle.frame.specs.Sites.{Frame}
-use Rattle.frame.specs.Calls.{returned_by_read, Admitted}
+use Rattle.answers.specs.Calls.{returned_by_read, Admitted}
 use Rattle.frame_file.specs.Lists.{part, length_part, get_d_part, part_set_past, part_set_before, part_set_inside, Below, below_part, below_set}
 use Rattle.frame_file.specs.FrameFile.{sample_count, block, header, payload, block_count, file_length, little_endian, little_endian_bytes, position_weighted_sum, check, stored_check, check_holds, filler_holds, stored_frame, written_file, refused, reading, read_answer}
 use Rattle.frame_file.proofs.LittleEndian.{part_of_number}

@@ -5,8 +5,8 @@ use Rattle.std.proofs.Common.{sym, ◌∙◌, ap, ap₂, arith, length-append, t
 use Rattle.toolkit.specs.Tests.{eqb_yes}
 use Rattle.frame.specs.declared.Shape.{Shape}
 use Rattle.frame.specs.Sites.{Frame, frame}
-use Rattle.frame.specs.Calls.{Admitted, no_refusal, ReadAnswer}
-use Rattle.frame.proofs.Admission.{done_passed, passed_done}
+use Rattle.answers.specs.Calls.{Admitted, no_refusal, ReadAnswer}
+use Rattle.answers.proofs.Admission.{done_passed, passed_done}
 use Rattle.frame_file.specs.Lists.{Below}
 use Rattle.frame_file.specs.FrameFile.{sample_count, shape_of, file_length, written_file, write_answer, file_after_write, Reading, accepted, refused, answer_of, samples_of, reading, read_answer, samples_after_read}
 use Rattle.frame_file.proofs.WrittenFile.{length_written_file}

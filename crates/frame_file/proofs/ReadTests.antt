@@ -7,8 +7,8 @@ use Rattle.std.proofs.Math.Logic.{⊎_elim}
 use Prim.Native.Nat.{ℕ, zero, suc, ◌+◌, ◌-◌, ◌≤◌, ◌<◌}
 use Rattle.std.proofs.Common.{eq-or-lt_of_le, le_refl, arith}
 use Rattle.toolkit.specs.Tests.{eqb_eq, eqb_yes, leb_le, leb_yes, and_true}
-use Rattle.frame.specs.declared.Refusal.{Refusal}
-use Rattle.frame.specs.declared.Refusal.TheVariants.{BufferLength, FileLength, Check, Header, BlockNumber, Filler}
+use Rattle.answers.specs.declared.Refusal.{Refusal}
+use Rattle.answers.specs.declared.Refusal.TheVariants.{BufferLength, FileLength, Check, Header, BlockNumber, Filler}
 use Rattle.frame.specs.Sites.{Frame, side_allowed, phase_allowed}
 use Rattle.frame_file.specs.Lists.{all_zero}
 use Rattle.frame_file.specs.FrameFile.{sample_count, block, has_tag, header, header_filler, block_count, file_length, stored_frame, Reading, accepted, refused, tested, length_allowed, check_holds, number_holds, header_allowed, filler_holds, later_blocks, reading}

@@ -9,8 +9,8 @@ use Rattle.std.proofs.Math.ListN.{length}
 use Rattle.toolkit.specs.Tests.{is_true, leb_yes, eqb_yes}
 use Rattle.frame.specs.declared.Shape.{Shape}
 use Rattle.frame.specs.Sites.{Frame, frame, side_allowed, phase_allowed, highest_sample}
-use Rattle.frame.specs.Calls.{Admitted}
-use Rattle.frame.proofs.Admission.{side_high, phase_high}
+use Rattle.answers.specs.Calls.{Admitted}
+use Rattle.frame.proofs.Sites.{side_high, phase_high}
 use Rattle.frame_file.specs.Lists.{part, part_part, joined, joined_cong, length_joined, part_joined, all_zero, Below, below_from, below_joined}
 use Rattle.frame_file.specs.FrameFile.{stored_samples, sample_count, shape_of, block, header, payload, block_samples, block_count, file_length, unpacked_payload, with_check, header_bytes, sample_bytes, written_block, written_file, stored_frame, length_allowed, check_holds, header_allowed, filler_holds}
 use Rattle.frame_file.proofs.BlockCount.{some_blocks, block_count_most, blocks_hold}

@@ -2,10 +2,10 @@
 -- other modules of this crate. A byte is a natural number below 256, a file a list of them. Assumes nothing.
 use Rattle.std.specs.Prelude.{Bool, cond, ◌&&◌, List, [], ◌∷◌, ◌++◌, ℕ, zero, suc, ◌+◌, ◌*◌, ◌-◌, ◌/◌, ◌%◌, leb, eqb, length, get_or, take, drop, Err, Ok}
 use Rattle.frame.specs.declared.Shape.{Shape}
-use Rattle.frame.specs.declared.Refusal.{Refusal}
-use Rattle.frame.specs.declared.Refusal.TheVariants.{BufferLength, FileLength, Check, Header, BlockNumber, Filler}
+use Rattle.answers.specs.declared.Refusal.{Refusal}
+use Rattle.answers.specs.declared.Refusal.TheVariants.{BufferLength, FileLength, Check, Header, BlockNumber, Filler}
 use Rattle.frame.specs.Sites.{Frame, frame, side_allowed, phase_allowed}
-use Rattle.frame.specs.Calls.{answer_in_order, after, Answer, ReadAnswer, no_refusal}
+use Rattle.answers.specs.Calls.{answer_in_order, after, Answer, ReadAnswer, no_refusal}
 use Rattle.frame_file.specs.Lists.{part, joined, zeros, all_zero, same_list}
 
 -- W, H and the phase of a frame

@@ -7,8 +7,8 @@ use Rattle.std.proofs.Math.Nat.{add-zero}
 use Rattle.std.proofs.Math.Numerals.{add-one}
 use Rattle.std.proofs.Math.ListN.{length-append}
 use Rattle.toolkit.specs.Tests.{eqb_yes}
-use Rattle.frame.specs.Calls.{clamp_answer, clamped, curve_answer, after, Answer, no_refusal}
-use Rattle.frame.proofs.Clamped.{equal_lengths}
+use Rattle.answers.specs.Calls.{clamp_answer, clamped, curve_answer, after, Answer, no_refusal}
+use Rattle.answers.proofs.Clamped.{equal_lengths}
 use Rattle.curve.proofs.Plane.{clamped_passes}
 use Rattle.frame_file.specs.Lists.{joined, put_at}
 use Rattle.printing.specs.Printing.{numbers_line, heading}

@@ -2,10 +2,10 @@
 use Rattle.std.specs.Prelude.{◌≡◌, List, ℕ, ◌*◌, ◌<◌, ℤ, length, Err}
 use Rattle.std.proofs.Common.{sym, ◌∙◌, arith}
 use Rattle.frame.specs.declared.Shape.{Shape}
-use Rattle.frame.specs.declared.Refusal.{Refusal}
-use Rattle.frame.specs.declared.Lengths.{Lengths}
+use Rattle.answers.specs.declared.Refusal.{Refusal}
+use Rattle.answers.specs.declared.Lengths.{Lengths}
 use Rattle.frame.specs.Sites.{Frame, frame, Colour}
-use Rattle.frame.specs.Calls.{develop_answer, after, Answer, no_refusal}
+use Rattle.answers.specs.Calls.{develop_answer, after, Answer, no_refusal}
 use Rattle.method.specs.Planes.{plane}
 use Rattle.develop.specs.LentBuffers.{lengths}
 use Rattle.develop.specs.Ready.{done_ready}

@@ -9,7 +9,7 @@ use Rattle.std.specs.Int.{w32, w64}
 use Rattle.toolkit.specs.Tests.{by_test, ltb_ge}
 use Rattle.toolkit.specs.Raster.{length_raster}
 use Rattle.frame.specs.Sites.{Frame, Colour, red, green, blue, highest_sample}
-use Rattle.frame.specs.Calls.{held, clamped}
+use Rattle.answers.specs.Calls.{held, clamped}
 use Rattle.method.specs.Planes.{plane}
 use Rattle.frame_file.specs.Lists.{joined, joined_cong}
 use Rattle.tone_curve.specs.ToneCurve.{entry_count, may_be_entry, first_passing, curve_entry, curved_number, curved}

@@ -6,10 +6,10 @@ use mathlib.Core.List.{List}
 use Rattle.std.proofs.Math.Nat.{sub-zero}
 use Rattle.toolkit.specs.Tests.{ltb_yes, ltb_no}
 use Rattle.frame.specs.declared.Shape.{Shape}
-use Rattle.frame.specs.declared.Refusal.{Refusal}
-use Rattle.frame.specs.declared.Refusal.TheVariants.{BufferLength}
+use Rattle.answers.specs.declared.Refusal.{Refusal}
+use Rattle.answers.specs.declared.Refusal.TheVariants.{BufferLength}
 use Rattle.frame.specs.Sites.{Frame, frame}
-use Rattle.frame.specs.Calls.{develop_answer}
+use Rattle.answers.specs.Calls.{develop_answer}
 use Rattle.frame_file.specs.FrameFile.{Reading, accepted, refused, reading, shape_of, sample_count, block_count, stored_frame, answer_of, samples_of, read_answer, samples_after_read}
 use Rattle.frame_file.proofs.BlockSamples.{length_stored_samples}
 use Rattle.frame_file.proofs.ReadTests.{header_of_accepted, later_blocks_accepted}

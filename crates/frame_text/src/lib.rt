@@ -3,14 +3,15 @@
 
 ghost use Rattle.std.specs.Prelude.{◌≡◌, ◌++◌, ◌+◌, ◌*◌, ◌<◌, ◌≤◌, length};
 ghost use Rattle.frame.specs.Sites.{frame as frame_of};
-ghost use Rattle.frame.specs.Calls.{develop_answer};
+ghost use Rattle.answers.specs.Calls.{develop_answer};
 ghost use Rattle.frame_file.specs.Lists.{joined};
 ghost use Rattle.frame_file.specs.FrameFile.{reading};
 ghost use Rattle.printing.specs.Printing.{black_level, lent, toned, text_of_developed, text_of, printed};
 ghost use Rattle.frame_text.specs.PlanesText.{entry_of_clamped, planes_line, text_of_planes, ClampedNumbers};
 ghost use Rattle.frame_text.specs.Composes.{Composes};
 
-use frame::{Refusal, Shape};
+use answers::Refusal;
+use frame::Shape;
 use printing::Tone;
 use text::{ROOM, Text};
 

@@ -21,9 +21,8 @@ use Rattle.frame.specs.Sites.{Frame, Colour, around}
 use Rattle.frame.specs.InnerSites.{Inner}
 use Rattle.frame.proofs.InnerSites.{inner_near, read_as_written}
 use Rattle.method.specs.Gradients.{mosaic}
-use Rattle.method.specs.Planes.{less_black}
-use Rattle.method.specs.Comparison.{number_at, entry_at}
-use Rattle.method.proofs.FrameChanges.{number_is_output, entry_is_code}
+use Rattle.method.specs.Planes.{less_black, number_at, entry_at}
+use Rattle.method.proofs.PlaneLaws.{number_is_output, entry_is_code}
 use Rattle.inner_sites.specs.Distances.{gradient_distance, second_pass_distance, enhancement_distance, corner_distance, neighbour_distance, differences_off, finals_off, greens_off, trials_off, reading_distance}
 use Rattle.inner_sites.proofs.StepDistances.{within_margin}
 use Rattle.inner_sites.specs.FarSites.{FarFromEdges, Near, ReadAsWritten, StepAsWritten, StepsAsWritten, SameWindow}

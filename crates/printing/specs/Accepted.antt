@@ -4,8 +4,8 @@ use Rattle.std.specs.Prelude.{◌≡◌, List, ℕ, ◌≤◌, length}
 use Rattle.std.proofs.Common.{arith}
 use Rattle.toolkit.specs.Tests.{ltb_no}
 use Rattle.frame.specs.Sites.{Frame}
-use Rattle.frame.specs.Calls.{Admitted, develop_answer, no_refusal}
-use Rattle.frame.proofs.Admission.{least_allowed, admitted_done, admitted_at_zero}
+use Rattle.answers.specs.Calls.{Admitted, develop_answer, no_refusal}
+use Rattle.answers.proofs.Admission.{least_allowed, admitted_done, admitted_at_zero}
 use Rattle.frame_file.specs.Lists.{Below}
 use Rattle.frame_file.specs.FrameFile.{block_count, file_length, reading, accepted}
 use Rattle.frame_file.proofs.WrittenFile.{length_written_file}

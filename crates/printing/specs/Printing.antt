@@ -1,11 +1,11 @@
 -- Document 01, "The frame file", its last paragraph: what the program prints; and document 02, A4: what the second program prints.
 -- Definitions alone. Assumes nothing.
 use Rattle.std.specs.Prelude.{cond, List, [], ◌∷◌, ◌++◌, ℕ, zero, suc, ◌+◌, ◌*◌, ◌/◌, ◌%◌, ltb, ℤ, pos, nat_abs, length, get_or, Err, Ok}
-use Rattle.frame.specs.declared.Refusal.{Refusal}
-use Rattle.frame.specs.declared.Refusal.TheVariants.{BufferLength}
+use Rattle.answers.specs.declared.Refusal.{Refusal}
+use Rattle.answers.specs.declared.Refusal.TheVariants.{BufferLength}
 use Rattle.frame.specs.Sites.{Frame, Colour, red, green, blue}
-use Rattle.frame.specs.Calls.{least_lengths, number_and_place, clamped, develop_answer, Answer}
-use Rattle.frame.specs.declared.Lengths.{Lengths}
+use Rattle.answers.specs.Calls.{least_lengths, number_and_place, clamped, develop_answer, Answer}
+use Rattle.answers.specs.declared.Lengths.{Lengths}
 use Rattle.method.specs.Planes.{plane}
 use Rattle.tone_curve.specs.ToneCurve.{curved}
 use Rattle.frame_file.specs.Lists.{joined}

@@ -11,11 +11,12 @@ use lib.ListN.{length, take, drop, length-take}
 use borrow.Author.Tests.{ne_eqb}
 use Rattle.toolkit.specs.Tests.{holds, leb_le, leb_yes, leb_no, eqb_yes, and_true}
 use Rattle.frame.specs.declared.Shape.{Shape}
-use Rattle.frame.specs.declared.Refusal.{Refusal}
-use Rattle.frame.specs.declared.Refusal.TheVariants.{BufferLength, FileLength, Check, Header, BlockNumber, Filler}
+use Rattle.answers.specs.declared.Refusal.{Refusal}
+use Rattle.answers.specs.declared.Refusal.TheVariants.{BufferLength, FileLength, Check, Header, BlockNumber, Filler}
 use Rattle.frame.specs.Sites.{Frame}
-use Rattle.frame.specs.Calls.{tested, and_then, Answer, ReadAnswer, no_refusal}
-use Rattle.frame.proofs.Admission.{refused_not_done, tested_done, side_high}
+use Rattle.answers.specs.Calls.{tested, and_then, Answer, ReadAnswer, no_refusal}
+use Rattle.answers.proofs.Admission.{refused_not_done, tested_done}
+use Rattle.frame.proofs.Sites.{side_high}
 use Rattle.block.specs.BlockTest.{block_answer}
 use Rattle.frame_file.specs.Lists.{all_zero}
 use Rattle.frame_file.specs.FrameFile.{block, header, header_filler, sample_count, block_count, file_length, stored_samples, stored_frame, Reading, accepted, refused, length_allowed, check_holds, number_holds, header_allowed, filler_holds, later_blocks, reading, read_answer, samples_after_read}

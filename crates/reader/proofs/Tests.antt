@@ -12,9 +12,9 @@ use Rattle.std.specs.List.{list_all}
 use borrow.Author.Tests.{ne_eqb}
 use Rattle.toolkit.specs.Tests.{leb_yes, leb_no, eqb_yes}
 use Rattle.frame.specs.declared.Shape.{Shape}
-use Rattle.frame.specs.declared.Refusal.{Refusal}
-use Rattle.frame.specs.declared.Refusal.TheVariants.{FileLength, Header, Filler}
-use Rattle.frame.specs.Calls.{and_then, Answer, no_refusal}
+use Rattle.answers.specs.declared.Refusal.{Refusal}
+use Rattle.answers.specs.declared.Refusal.TheVariants.{FileLength, Header, Filler}
+use Rattle.answers.specs.Calls.{and_then, Answer, no_refusal}
 use Rattle.admission.specs.ShapeTest.{shape_allowed}
 use Rattle.block.specs.BlockTest.{block_answer}
 use Rattle.frame_file.specs.Lists.{all_zero}

@@ -1,7 +1,7 @@
 -- What the reader's tests answer, one function of the code at a time. Definitions alone. Assumes nothing.
 use Rattle.std.specs.Prelude.{List, ℕ, zero, suc, length}
-use Rattle.frame.specs.declared.Refusal.TheVariants.{FileLength, Header, Filler}
-use Rattle.frame.specs.Calls.{tested, and_then, Answer, no_refusal}
+use Rattle.answers.specs.declared.Refusal.TheVariants.{FileLength, Header, Filler}
+use Rattle.answers.specs.Calls.{tested, and_then, Answer, no_refusal}
 use Rattle.block.specs.BlockTest.{block_answer}
 use Rattle.frame_file.specs.Lists.{all_zero}
 use Rattle.frame_file.specs.FrameFile.{block, header_filler, length_allowed, header_allowed, filler_holds}

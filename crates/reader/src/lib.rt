@@ -6,7 +6,8 @@ ghost use Rattle.frame_file.specs.Lists.{all_zero};
 ghost use Rattle.frame_file.specs.FrameFile.{header, block_count, stored_samples, read_answer, samples_after_read};
 ghost use Rattle.reader.specs.ReadSteps.{header_answer, first_answer, later_answer, later_answers};
 
-use frame::{Answer, ReadAnswer, Refusal, Shape};
+use answers::{Answer, ReadAnswer, Refusal};
+use frame::Shape;
 
 // Whether all bytes of a slice are zero.
 fn zero(bytes: &[u8]) -> bool

@@ -1,8 +1,8 @@
 -- The lines of a site and of a refusal as pieces, each number with the byte behind it. Assumes nothing.
 use Rattle.std.specs.Prelude.{◌≡◌, List, [], ◌∷◌, ◌++◌, ℕ, ◌+◌, ◌≤◌, length}
 use Rattle.std.proofs.Common.{sym, ◌∙◌, ap, append_assoc, arith, length-append}
-use Rattle.frame.specs.declared.Refusal.{Refusal}
-use Rattle.frame.specs.Calls.{number_and_place}
+use Rattle.answers.specs.declared.Refusal.{Refusal}
+use Rattle.answers.specs.Calls.{number_and_place}
 use Rattle.printing.specs.Printing.{decimal, numbers_line, refused_word, refusal_text}
 use Rattle.text.specs.Put.{Put, put_then, put_as}
 

@@ -5,7 +5,7 @@ ghost use Rattle.std.specs.Prelude.{◌≡◌, [], ◌∷◌, ◌++◌, ◌+◌,
 ghost use Rattle.printing.specs.Printing.{decimal, numbers_line, refusal_text};
 
 use arrayvec::ArrayString;
-use frame::Refusal;
+use answers::Refusal;
 use itoa::Buffer;
 
 // The bytes that a text has room for: 23 of the heading, and 25 for each of 1,024 sites.
@@ -59,6 +59,6 @@ pub fn refusal(why: Refusal) -> Text
 {
     let mut text = Text::new();
     text.push_str("refused ");
-    numbers_line(&mut text, &[frame::number_of(why), frame::place_of(why)]);
+    numbers_line(&mut text, &[answers::number_of(why), answers::place_of(why)]);
     text
 }

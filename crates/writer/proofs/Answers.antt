@@ -10,11 +10,11 @@ use lib.ListN.{length}
 use borrow.Author.Tests.{ne_eqb}
 use Rattle.toolkit.specs.Tests.{eqb_yes}
 use Rattle.frame.specs.declared.Shape.{Shape}
-use Rattle.frame.specs.declared.Refusal.{Refusal}
-use Rattle.frame.specs.declared.Refusal.TheVariants.{BufferLength}
+use Rattle.answers.specs.declared.Refusal.{Refusal}
+use Rattle.answers.specs.declared.Refusal.TheVariants.{BufferLength}
 use Rattle.frame.specs.Sites.{frame, highest_sample}
-use Rattle.frame.specs.Calls.{tested, and_then, samples_answer, Answer, no_refusal}
-use Rattle.frame.proofs.Admission.{samples_done}
+use Rattle.answers.specs.Calls.{tested, and_then, samples_answer, Answer, no_refusal}
+use Rattle.answers.proofs.Admission.{samples_done}
 use Rattle.admission.specs.ShapeTest.{shape_answer, count_answer}
 use Rattle.admission.specs.InOrder.{in_order}
 use Rattle.admission.specs.Allowed.{shape_passes, count_passes, count_most}

@@ -7,7 +7,8 @@ ghost use Rattle.frame_file.specs.Lists.{Below, part};
 ghost use Rattle.frame_file.specs.FrameFile.{filled_up, with_check, header_bytes, sample_bytes, written_file, write_answer, file_after_write};
 ghost use Rattle.writer.specs.Ready.{Ready};
 
-use frame::{Answer, Refusal, Shape};
+use answers::{Answer, Refusal};
+use frame::Shape;
 
 // The first 13 bytes of block 0: number, tag, W, H, phase.
 #[tactic(auto, unfolding(frame_file::specs::Lists::part, frame_file::specs::FrameFile::header_bytes, frame_file::specs::FrameFile::little_endian_bytes, frame_file::specs::FrameFile::tag))]

@@ -1,7 +1,7 @@
 -- `clamp::hold_all` meets its contract. Assumes nothing.
 use Rattle.std.proofs.Common.{pos, arith, rules}
 use Rattle.toolkit.specs.Filling.{filled_next}
-use Rattle.frame.specs.Calls.{held}
+use Rattle.answers.specs.Calls.{held}
 use Rattle.clamp.proofs.hold_all.Goals as goal
 
 pub loop-k-preserved : goal.loop-k-preserved

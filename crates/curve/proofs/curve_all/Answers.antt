@@ -1,7 +1,7 @@
 -- `curve::curve_all` meets its contract. Assumes nothing.
 use Rattle.std.proofs.Common.{◌≡◌, ℤ, pos, get_or, w32, to_z, of_z, arith, rules, to_z-of_z}
 use Rattle.toolkit.specs.Filling.{filled_next, filled_all}
-use Rattle.frame.proofs.Clamped.{thirteen_in_figures}
+use Rattle.answers.proofs.Clamped.{thirteen_in_figures}
 use Rattle.tone_curve.specs.ToneCurve.{curved_number, curved}
 use Rattle.curve.proofs.curve_all.Goals as goal
 

@@ -1,5 +1,5 @@
 -- `reader::read` meets its contract. Assumes nothing.
-use Rattle.frame.specs.Calls.{Answer, no_refusal}
+use Rattle.answers.specs.Calls.{Answer, no_refusal}
 use mathlib.Core.Path.{◌≡◌, sym, ◌∙◌, ap}
 use mathlib.Core.List.{List}
 use Prim.Native.Nat.{ℕ, ◌*◌}

@@ -12,14 +12,15 @@ use Rattle.toolkit.specs.Tables.{get_d_tabulate}
 use Rattle.toolkit.specs.Raster.{raster, length_raster, getD_raster}
 use Rattle.frame.specs.Sites.{Frame, Colour, sample, highest_sample, side_allowed, phase_allowed, colour, mirrored_phase, flipped_phase, transposed_phase, traded_phase}
 use Rattle.frame.proofs.Colours.{by_phase, colour_mirrored, colour_flipped, colour_transposed, colour_traded}
-use Rattle.frame.specs.Calls.{most_under, Admitted, AdmittedAt}
-use Rattle.frame.proofs.Admission.{side_low}
+use Rattle.answers.specs.Calls.{most_under, Admitted, AdmittedAt}
+use Rattle.frame.proofs.Sites.{side_low}
 use Rattle.method.specs.Gradients.{mosaic}
 use Rattle.method.specs.Green.{decision_entry, decision_map}
-use Rattle.method.specs.Planes.{output, less_black, plane}
-use Rattle.method.specs.Comparison.{number_at, entry_at, Change, left_right, top_bottom, transposing, trading, matching_row, matching_column, changed_height, changed_width, changed_phase, changed_samples, changed}
-use Rattle.method.proofs.Decisions.{act_code}
-use Rattle.method.proofs.MosaicChanges.{act_colour, Changed, entry_both, output_both}
+use Rattle.method.specs.Planes.{output, less_black, plane, number_at, entry_at}
+use Rattle.method.proofs.PlaneLaws.{number_is_output, entry_is_code}
+use Rattle.correspondence.specs.Comparison.{Change, left_right, top_bottom, transposing, trading, matching_row, matching_column, changed_height, changed_width, changed_phase, changed_samples, changed}
+use Rattle.correspondence.proofs.Decisions.{act_code}
+use Rattle.correspondence.proofs.MosaicChanges.{act_colour, Changed, entry_both, output_both}
 
 -- ---- one change
 
@@ -130,17 +131,6 @@ changed_admitted_at f b a g = record {
   black_low = a.black_low;
   none_under = changed_each f a.admitted (λ z. b ≤ z + most_under) a.none_under g;
 }
-
--- the number at (i,j) is the output there, less the black level
-pub number_is_output : (f : Frame) (b : ℕ) (c : Colour) (i j : ℕ) → i < f.height → j < f.width
-    → number_at f b c i j ≡ less_black b (output (mosaic f) c i j)
-unfolding number_at plane
-number_is_output f b c i j hi hj = getD_raster f.height f.width (λ i j. less_black b (output (mosaic f) c i j)) i j (pos 0) hi hj
-
--- the entry at (i,j) is the code of the decision there
-pub entry_is_code : (f : Frame) (i j : ℕ) → i < f.height → j < f.width → entry_at f i j ≡ decision_entry (mosaic f) i j
-unfolding entry_at decision_map
-entry_is_code f i j hi hj = getD_raster f.height f.width (decision_entry (mosaic f)) i j 0 hi hj
 
 -- what one change does at a point
 module _ (g : Change) (f : Frame) (i j : ℕ) (hi : i < f.height) (hj : j < f.width) where

@@ -6,19 +6,20 @@ use Rattle.std.specs.Prelude.{◌≡◌, ◌↔◌, List, ℕ, ◌<◌, ◌≤�
 use Rattle.std.proofs.Common.{arith}
 use Rattle.toolkit.specs.Raster.{getD_raster}
 use Rattle.frame.specs.Sites.{Frame, Colour, red, green, blue, sample, highest_sample, colour}
-use Rattle.frame.specs.Calls.{Admitted, NoneUnder, AdmittedAt}
-use Rattle.frame.proofs.Admission.{side_low, sample_high}
+use Rattle.answers.specs.Calls.{Admitted, NoneUnder, AdmittedAt}
+use Rattle.frame.proofs.Sites.{side_low}
+use Rattle.answers.proofs.Admission.{sample_high}
 use Rattle.method.specs.Gradients.{mosaic}
 use Rattle.method.specs.Green.{outcome_at, second_pass_at, chroma_decision_at, decision_at, decision_entry}
-use Rattle.method.specs.Planes.{output, less_black, plane}
-use Rattle.method.specs.Comparison.{Accepted, number_at, entry_at, Change, changed_by, row_after, column_after, name_after, code_after, brightened, KeepsRange, SumsAreSamples, taken_off, NoneBelow}
+use Rattle.method.specs.Planes.{output, less_black, plane, number_at, entry_at}
+use Rattle.correspondence.specs.Comparison.{Accepted, Change, changed_by, row_after, column_after, name_after, code_after, brightened, KeepsRange, SumsAreSamples, taken_off, NoneBelow}
 use Rattle.method.proofs.ColourLaws.{same_self}
-use Rattle.method.proofs.Decisions.{code_most, zero_at_green}
-use Rattle.method.proofs.Acceptance.{accepted_admitted, admitted_accepted}
-use Rattle.method.proofs.FrameChanges.{number_is_output, entry_is_code}
-use Rattle.method.proofs.ChangeLists.{green_keeps_name, list_admitted, list_inside, list_colour, list_number, list_entry}
-use Rattle.method.proofs.FrameBrightness.{sums_are_samples, brightened_admitted, number_brightened, entry_brightened}
-use Rattle.method.proofs.BlackLevel.{sums_keep_range, range_less_black, taken_off_admitted, number_taken_off, entry_taken_off}
+use Rattle.method.proofs.DecisionLaws.{code_most, zero_at_green}
+use Rattle.correspondence.proofs.Acceptance.{accepted_admitted, admitted_accepted}
+use Rattle.method.proofs.PlaneLaws.{number_is_output, entry_is_code}
+use Rattle.correspondence.proofs.ChangeLists.{green_keeps_name, list_admitted, list_inside, list_colour, list_number, list_entry}
+use Rattle.correspondence.proofs.FrameBrightness.{sums_are_samples, brightened_admitted, number_brightened, entry_brightened}
+use Rattle.correspondence.proofs.BlackLevel.{sums_keep_range, range_less_black, taken_off_admitted, number_taken_off, entry_taken_off}
 use Rattle.method.proofs.Range.{output_ranged}
 use Rattle.method.proofs.Sizes.{samples_ranged}
 

@@ -6,8 +6,8 @@ use Rattle.toolkit.specs.Orders.{to_naturals}
 use Rattle.method.specs.Gradients.{FourDirections}
 use Rattle.method.specs.Planes.{inner_round, count_zeros, weight, weights, sum_of_four, weighted_sum, total, weighted_mean}
 use Rattle.method.proofs.ColourLaws.{directions_path}
-use Rattle.method.specs.Comparison.{Change, left_right, top_bottom, transposing, trading}
-use Rattle.method.proofs.SiteChanges.{act_directions, act_corners}
+use Rattle.correspondence.specs.Comparison.{Change, left_right, top_bottom, transposing, trading}
+use Rattle.correspondence.proofs.SiteChanges.{act_directions, act_corners}
 
 -- ---- two changes of places make all others
 

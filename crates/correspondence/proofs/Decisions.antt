@@ -5,8 +5,8 @@ use Rattle.std.proofs.Common.{arith}
 use Rattle.toolkit.specs.Tests.{by_test, eqb_eq}
 use Rattle.frame.specs.Sites.{Colour, red, green, blue}
 use Rattle.method.specs.Green.{Direction, horizontal, vertical, diagonal, Outcome, equal, strong_across, strong_down, weak, Decision, measured, weak_across, weak_down, weak_to_mean, decision_code, decided, decision_of}
-use Rattle.method.specs.Comparison.{Change, left_right, top_bottom, transposing, trading, exchanged_code}
-use Rattle.method.proofs.SiteChanges.{act_direction, act_outcome}
+use Rattle.correspondence.specs.Comparison.{Change, left_right, top_bottom, transposing, trading, exchanged_code}
+use Rattle.correspondence.proofs.SiteChanges.{act_direction, act_outcome}
 
 -- ---- how a change acts
 
@@ -65,27 +65,3 @@ exchanged_twice n = by_test (eqb n 2) _ (λ a. rw (eqb_eq n 2 a))
     (λ a. by_test (eqb n 3) _ (λ b. rw (eqb_eq n 3 b))
     (λ b. by_test (eqb n 4) _ (λ c. rw (eqb_eq n 4 c))
     (λ c. by_test (eqb n 5) _ (λ d. rw (eqb_eq n 5 d)) (λ d. simp (a, b, c, d)))))
-
--- ---- the codes
-
-pub code_most : (d : Decision) → decision_code d ≤ 6
-code_most measured = omega arith
-code_most Decision.equal = omega arith
-code_most Decision.strong_across = omega arith
-code_most Decision.strong_down = omega arith
-code_most weak_across = omega arith
-code_most weak_down = omega arith
-code_most weak_to_mean = omega arith
-
-decided_above : (o : Outcome) (k : Direction) → 0 < decision_code (decided o k)
-decided_above equal k = omega arith
-decided_above strong_across k = omega arith
-decided_above strong_down k = omega arith
-decided_above weak horizontal = omega arith
-decided_above weak vertical = omega arith
-decided_above weak diagonal = omega arith
-
-pub zero_at_green : (c : Colour) (o : Outcome) (k : Direction) → (decision_code (decision_of c (decided o k)) ≡ 0) ↔ (c ≡ green)
-zero_at_green red o k = (λ e. absurd (omega (arith, decided_above o k)), λ e. absurd (let z : ◌≡◌ {A = ℕ} 0 1 = cc in omega arith))
-zero_at_green green o k = (λ e. refl, λ e. refl)
-zero_at_green blue o k = (λ e. absurd (omega (arith, decided_above o k)), λ e. absurd (let z : ◌≡◌ {A = ℕ} 0 1 = cc in omega arith))

@@ -7,13 +7,13 @@ use Rattle.std.proofs.lemmas.List.{length-map}
 use Rattle.toolkit.specs.Differences.{as_difference}
 use Rattle.toolkit.specs.Orders.{Ranged, to_naturals}
 use Rattle.frame.specs.Sites.{Frame, Colour, highest_sample}
-use Rattle.frame.specs.Calls.{Admitted, AdmittedAt}
-use Rattle.frame.proofs.Admission.{admitted_at_zero}
-use Rattle.method.specs.Planes.{output, less_black}
+use Rattle.answers.specs.Calls.{Admitted, AdmittedAt}
+use Rattle.answers.proofs.Admission.{admitted_at_zero}
+use Rattle.method.specs.Planes.{output, less_black, number_at, entry_at}
 use Rattle.method.specs.Gradients.{mosaic}
-use Rattle.method.specs.Comparison.{number_at, entry_at, brightened, KeepsRange, SumsAreSamples, taken_off, NoneBelow}
-use Rattle.method.proofs.FrameChanges.{number_is_output}
-use Rattle.method.proofs.FrameBrightness.{brightened_admitted, number_brightened, entry_brightened}
+use Rattle.correspondence.specs.Comparison.{brightened, KeepsRange, SumsAreSamples, taken_off, NoneBelow}
+use Rattle.method.proofs.PlaneLaws.{number_is_output}
+use Rattle.correspondence.proofs.FrameBrightness.{brightened_admitted, number_brightened, entry_brightened}
 
 -- ---- brightened frames
 

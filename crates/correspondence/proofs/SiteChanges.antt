@@ -12,7 +12,7 @@ use Rattle.method.specs.Gradients.{exchanged, apart, taps, six_tap, six_tap_pair
 use Rattle.method.specs.Green.{Direction, horizontal, vertical, diagonal, line_estimate, horizontal_estimate, half, estimate, threshold, Outcome, equal, strong_across, strong_down, weak, outcome, first_pass, first_pass_or, reach, sum_about, column_sum, horizontal_sum, vertical_sum, diagonal_sum, least_sum, second_pass}
 use Rattle.method.specs.Planes.{straight, diagonally, corners, corner_gradients}
 use Rattle.method.proofs.ColourLaws.{directions_path}
-use Rattle.method.specs.Comparison.{Change, left_right, top_bottom, transposing, trading}
+use Rattle.correspondence.specs.Comparison.{Change, left_right, top_bottom, transposing, trading}
 
 -- ---- how a change acts
 

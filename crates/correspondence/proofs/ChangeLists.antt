@@ -7,11 +7,12 @@ use Rattle.toolkit.specs.Tests.{by_test, eqb_eq, eqb_ne}
 use Rattle.frame.specs.Sites.{Frame, Colour, green, colour}
 use Rattle.frame.specs.Colours.{trade}
 use Rattle.frame.proofs.Colours.{trade_twice}
-use Rattle.frame.specs.Calls.{Admitted, AdmittedAt}
-use Rattle.method.specs.Comparison.{number_at, entry_at, Change, left_right, top_bottom, transposing, trading, changed, changed_by, row_after, column_after, count_trades, trades_oddly, name_after, count_transposes, transposes_oddly, exchanged_code, code_after}
-use Rattle.method.proofs.Decisions.{act_code, exchanged_twice}
-use Rattle.method.proofs.MosaicChanges.{act_colour}
-use Rattle.method.proofs.FrameChanges.{changed_admitted, changed_admitted_at, point_inside, point_colour, point_number, point_entry}
+use Rattle.answers.specs.Calls.{Admitted, AdmittedAt}
+use Rattle.method.specs.Planes.{number_at, entry_at}
+use Rattle.correspondence.specs.Comparison.{Change, left_right, top_bottom, transposing, trading, changed, changed_by, row_after, column_after, count_trades, trades_oddly, name_after, count_transposes, transposes_oddly, exchanged_code, code_after}
+use Rattle.correspondence.proofs.Decisions.{act_code, exchanged_twice}
+use Rattle.correspondence.proofs.MosaicChanges.{act_colour}
+use Rattle.correspondence.proofs.FrameChanges.{changed_admitted, changed_admitted_at, point_inside, point_colour, point_number, point_entry}
 
 -- one more is odd when it was not
 odd_next : (n : ℕ) → eqb ((n + 1) % 2) 1 ≡ not (eqb (n % 2) 1)

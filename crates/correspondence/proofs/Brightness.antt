@@ -14,8 +14,8 @@ use Rattle.method.specs.Green.{Direction, horizontal, vertical, diagonal, line_e
 use Rattle.method.specs.Planes.{green_difference, mean_two_off, final_difference, same, chroma_site_difference, colour_difference, green_quarters, quarters, final_round, output}
 use Rattle.method.proofs.ColourLaws.{directions_path}
 use Rattle.method.proofs.GreenLaws.{diagonal_is_whole, green_is_decided}
-use Rattle.method.specs.Comparison.{trading}
-use Rattle.method.proofs.MosaicChanges.{Matches, Sides, around_changed}
+use Rattle.correspondence.specs.Comparison.{trading}
+use Rattle.correspondence.proofs.MosaicChanges.{Matches, Sides, around_changed}
 
 -- ---- one site
 

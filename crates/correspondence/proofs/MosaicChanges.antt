@@ -11,10 +11,10 @@ use Rattle.method.specs.Gradients.{Mosaic, around_in, samples_around, gradients,
 use Rattle.method.specs.Green.{Direction, Outcome, estimate, first_pass, outcome_at, first_pass_or, green_or, less_eight, trial_difference, second_pass, second_pass_at, green_at, Decision, decision_code, chroma_decision_at, decision_of, decision_at, decision_entry}
 use Rattle.method.proofs.GreenLaws.{green_is_decided}
 use Rattle.method.specs.Planes.{weighted_mean, green_difference, straight, mean_two_off, fused, final_difference, same, corners, corner_gradients, chroma_site_difference, colour_difference, green_quarters, quarters, output}
-use Rattle.method.specs.Comparison.{Change, left_right, top_bottom, transposing, trading, matching_row, matching_column, changed_height, changed_width}
-use Rattle.method.proofs.SiteChanges.{act, act_directions, act_direction, act_outcome, gradients_changed, estimate_changed, first_pass_changed, first_pass_or_changed, act_direction_twice, second_pass_changed, straight_changed, corners_changed, corner_gradients_changed}
-use Rattle.method.proofs.Decisions.{act_decision, act_code, decided_changed, code_changed}
-use Rattle.method.proofs.MeanChanges.{mean_directions, mean_corners}
+use Rattle.correspondence.specs.Comparison.{Change, left_right, top_bottom, transposing, trading, matching_row, matching_column, changed_height, changed_width}
+use Rattle.correspondence.proofs.SiteChanges.{act, act_directions, act_direction, act_outcome, gradients_changed, estimate_changed, first_pass_changed, first_pass_or_changed, act_direction_twice, second_pass_changed, straight_changed, corners_changed, corner_gradients_changed}
+use Rattle.correspondence.proofs.Decisions.{act_decision, act_code, decided_changed, code_changed}
+use Rattle.correspondence.proofs.MeanChanges.{mean_directions, mean_corners}
 
 -- ---- two mosaics that correspond
 

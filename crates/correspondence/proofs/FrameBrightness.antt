@@ -9,13 +9,13 @@ use Rattle.toolkit.specs.Differences.{as_difference}
 use Rattle.toolkit.specs.Orders.{to_naturals}
 use Rattle.toolkit.specs.Naturals.{not_negative}
 use Rattle.frame.specs.Sites.{Frame, Colour, sample, highest_sample}
-use Rattle.frame.specs.Calls.{Admitted}
-use Rattle.frame.proofs.Admission.{side_low}
+use Rattle.answers.specs.Calls.{Admitted}
+use Rattle.frame.proofs.Sites.{side_low}
 use Rattle.method.specs.Gradients.{mosaic}
-use Rattle.method.specs.Planes.{output, less_black}
-use Rattle.method.specs.Comparison.{number_at, entry_at, brightened, KeepsRange, SumsAreSamples}
-use Rattle.method.proofs.FrameChanges.{number_is_output, entry_is_code}
-use Rattle.method.proofs.Brightness.{Brighter, entry_same, output_brighter}
+use Rattle.method.specs.Planes.{output, less_black, number_at, entry_at}
+use Rattle.correspondence.specs.Comparison.{brightened, KeepsRange, SumsAreSamples}
+use Rattle.method.proofs.PlaneLaws.{number_is_output, entry_is_code}
+use Rattle.correspondence.proofs.Brightness.{Brighter, entry_same, output_brighter}
 
 get_d_map : {A B : Type 0} (h : A → B) (l : List A) (n : ℕ) (b : B) (a : A) → n < length l → get_or (map h l) n b ≡ h (get_or l n a)
 get_d_map h [] n b a lt = absurd (omega arith)

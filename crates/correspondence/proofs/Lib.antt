@@ -1,0 +1,11 @@
+pub mod SiteChanges
+pub mod MeanChanges
+pub mod Decisions
+pub mod MosaicChanges
+pub mod FrameChanges
+pub mod ChangeLists
+pub mod Brightness
+pub mod FrameBrightness
+pub mod BlackLevel
+pub mod Demand3
+pub mod Acceptance
