@@ -10,3 +10,4 @@ pub mod Demand3
 pub mod InnerSites
 pub mod CurveNumbers
 pub mod ToneCurve
+pub mod Table

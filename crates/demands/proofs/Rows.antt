@@ -7,13 +7,13 @@ use mathlib.Core.List.{List, [], ◌∷◌}
 use Rattle.answers.specs.declared.Refusal.{Refusal}
 use Rattle.answers.specs.declared.Refusal.TheVariants.{Size, Phase, MosaicLength, BufferLength, Sample, BlackLevel, UnderBlack, Unclamped}
 use Rattle.frame.specs.Sites.{Frame, side_allowed, phase_allowed, highest_sample}
-use Rattle.answers.specs.Calls.{Returned, number_and_place, returned, tested, and_then, first_failing, samples_answer, answer_in_order, highest_black, black_answer, most_under, under_answer, unclamped, unclamped_answer, curve_answer, Answer, no_refusal, Clamped}
+use Rattle.answers.specs.Calls.{Returned, number_and_place, returned, tested, and_then, in_order, first_failing, samples_answer, answer_in_order, highest_black, black_answer, most_under, under_answer, unclamped, unclamped_answer, curve_answer, Answer, no_refusal, Clamped}
 use Rattle.demands.specs.Conditions.{Decides, same_decides, both_decide, equal_decides, at_most_decides, not_below_decides, side_decides, by_condition}
 use Rattle.demands.specs.Rows.{SidesAllowed, RowOfWrite, RowOfDevelop, RowOfCurve, done, number_1, number_11, number_12, number_13, number_2, number_3, number_4, number_5}
 
 -- ---- laws: the sides
 
-sides_decide : (f : Frame) → Decides (SidesAllowed f) (side_allowed f.width && side_allowed f.height)
+pub sides_decide : (f : Frame) → Decides (SidesAllowed f) (side_allowed f.width && side_allowed f.height)
 sides_decide f =
     same_decides
     (λ both. record {
@@ -28,7 +28,7 @@ sides_decide f =
 -- ---- laws: samples and numbers, one by one
 
 -- what numbers 5, 12 and 13 are about: every entry meets a condition, or the first that does not; d stands for one past the end
-data EntriesAre {A : Type 0} (d : A) (P : A → Type 0) (why : ℕ → Refusal) (l : List A) (position : ℕ) : Answer → Type 0 where
+pub data EntriesAre {A : Type 0} (d : A) (P : A → Type 0) (why : ℕ → Refusal) (l : List A) (position : ℕ) : Answer → Type 0 where
   all_meet : ((k : ℕ) → k < length l → P (get_or l k d)) → EntriesAre d P why l position no_refusal
   first_fails : (k : ℕ) → k < length l → ¬ P (get_or l k d) → ((m : ℕ) → m < k → P (get_or l m d))
       → EntriesAre d P why l position (Err (why (position + k)))
@@ -83,38 +83,38 @@ module _ (Row : Returned → Type 0) where
       by_condition (λ a. Row (returned (and_then a rest))) no_refusal (Err why) decides later here
 
 module _ (f : Frame) (others : Bool) (Allowed : Type 0) (decides : Decides Allowed others) where
-  range_is : EntriesAre 0 (λ z. z ≤ 1023) Sample f.samples 0 (samples_answer f.samples)
+  pub range_is : EntriesAre 0 (λ z. z ≤ 1023) Sample f.samples 0 (samples_answer f.samples)
   unfolding samples_answer highest_sample
   range_is = entries_are 0 (λ z. z ≤ 1023) Sample _ (λ z. at_most_decides z 1023) f.samples 0
 
-  under_is : (b : ℕ) → EntriesAre 0 (λ z. b ≤ z + 64) UnderBlack f.samples 0 (under_answer b f.samples)
+  pub under_is : (b : ℕ) → EntriesAre 0 (λ z. b ≤ z + 64) UnderBlack f.samples 0 (under_answer b f.samples)
   unfolding under_answer most_under
   under_is b = entries_are 0 (λ z. b ≤ z + 64) UnderBlack _ (λ z. at_most_decides b (z + 64)) f.samples 0
 
   pub write_in_order : RowOfWrite f Allowed (returned (answer_in_order f no_refusal others no_refusal))
-  unfolding answer_in_order phase_allowed
+  unfolding answer_in_order in_order phase_allowed
   write_in_order =
       let Row : Returned → Type 0 = RowOfWrite f Allowed in
-      tested_row Row Size _ (sides_decide f) number_1
-      (λ s. tested_row Row Phase _ (at_most_decides f.phase 3) (λ p. number_2 s (omega arith))
-      (λ p. tested_row Row MosaicLength _ (equal_decides (length f.samples) (f.height * f.width)) (number_3 s p)
-      (λ m. tested_row Row BufferLength _ decides (number_4 s p m)
-      (λ o. by_entries (λ a. Row (returned (and_then a no_refusal))) range_is
+      and_then_row Row Size _ (sides_decide f) number_1
+      (λ s. and_then_row Row Phase _ (at_most_decides f.phase 3) (λ p. number_2 s (omega arith))
+      (λ p. and_then_row Row MosaicLength _ (equal_decides (length f.samples) (f.height * f.width)) (number_3 s p)
+      (λ m. and_then_row Row BufferLength _ decides (number_4 s p m)
+      (λ o. by_entries (λ a. Row (returned (and_then a (and_then no_refusal no_refusal)))) range_is
       (λ k h above. number_5 s p m o k h (omega arith)) (done s p m o)))))
 
   pub develop_in_order : (b : ℕ)
       → RowOfDevelop f b Allowed (returned (answer_in_order f (black_answer b) others (under_answer b f.samples)))
-  unfolding answer_in_order phase_allowed black_answer highest_black
+  unfolding answer_in_order in_order phase_allowed black_answer highest_black
   develop_in_order b =
       let Row : Returned → Type 0 = RowOfDevelop f b Allowed in
-      tested_row Row Size _ (sides_decide f) number_1
-      (λ s. tested_row Row Phase _ (at_most_decides f.phase 3) (λ p. number_2 s (omega arith))
+      and_then_row Row Size _ (sides_decide f) number_1
+      (λ s. and_then_row Row Phase _ (at_most_decides f.phase 3) (λ p. number_2 s (omega arith))
       (λ p. and_then_row Row BlackLevel _ (at_most_decides b 255) (λ l. number_11 s p (omega arith))
-      (λ l. tested_row Row MosaicLength _ (equal_decides (length f.samples) (f.height * f.width)) (number_3 s p l)
-      (λ m. tested_row Row BufferLength _ decides (number_4 s p l m)
-      (λ o. by_entries (λ a. Row (returned (and_then a (under_answer b f.samples)))) range_is
+      (λ l. and_then_row Row MosaicLength _ (equal_decides (length f.samples) (f.height * f.width)) (number_3 s p l)
+      (λ m. and_then_row Row BufferLength _ decides (number_4 s p l m)
+      (λ o. by_entries (λ a. Row (returned (and_then a (and_then (under_answer b f.samples) no_refusal)))) range_is
       (λ k h above. number_5 s p l m o k h (omega arith))
-      (λ r. by_entries (λ a. Row (returned a)) (under_is b) (λ k h under. number_12 s p l m o r k h (omega arith)) (done s p l m o r)))))))
+      (λ r. by_entries (λ a. Row (returned (and_then a no_refusal))) (under_is b) (λ k h under. number_12 s p l m o r k h (omega arith)) (done s p l m o r)))))))
 
 -- ---- laws: curve
 
