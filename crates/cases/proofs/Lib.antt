@@ -1,4 +1,5 @@
 pub mod GlazeCases
 pub mod FrameCases
 pub mod AnswerCases
+pub mod FileCases
 pub mod Table

@@ -1,4 +1,4 @@
--- The case table as one fact: each of its 31 rows holds. Assumes nothing.
+-- The case table as one fact: each of its 38 rows holds. Assumes nothing.
 use Rattle.std.specs.Prelude.{◌≡◌, refl, List, [], ◌++◌, ℕ, length, get_or}
 use Rattle.std.proofs.Common.{sym, ◌∙◌, ap, ap₂}
 use Rattle.std.proofs.lemmas.List.{map-append}
@@ -10,6 +10,8 @@ use Rattle.cases.specs.FrameCases.{frame_cases}
 use Rattle.cases.proofs.FrameCases.{frame_cases_hold}
 use Rattle.cases.specs.AnswerCases.{answer_cases}
 use Rattle.cases.proofs.AnswerCases.{answer_cases_hold}
+use Rattle.cases.specs.FileCases.{stored_cases, printed_cases}
+use Rattle.cases.proofs.FileCases.{stored_cases_hold, printed_cases_hold}
 use Rattle.cases.specs.Table.{cases}
 
 -- two parts of a table
@@ -21,11 +23,14 @@ both rows more e e' =
 
 pub all_cases : all_given cases ≡ all_told cases
 unfolding cases
-all_cases = both glaze_cases _ glaze_cases_hold (both frame_cases answer_cases frame_cases_hold answer_cases_hold)
+all_cases =
+    both glaze_cases _ glaze_cases_hold
+    (both frame_cases _ frame_cases_hold
+    (both answer_cases _ answer_cases_hold (both stored_cases printed_cases stored_cases_hold printed_cases_hold)))
 
 -- no row is missing
-pub cases_counted : length cases ≡ 31
-unfolding cases glaze_cases frame_cases answer_cases
+pub cases_counted : length cases ≡ 38
+unfolding cases glaze_cases frame_cases answer_cases stored_cases printed_cases
 cases_counted = refl
 
 -- each row, counted from 0

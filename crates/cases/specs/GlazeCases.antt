@@ -35,7 +35,7 @@ heading_line =
     (114 ∷ 111 ∷ 119 ∷ 32 ∷ 99 ∷ 111 ∷ 108 ∷ 32 ∷ 114 ∷ 101 ∷ 100 ∷ 32 ∷ 103 ∷ 114 ∷ 101 ∷ 101 ∷ 110 ∷ 32 ∷ 98 ∷ 108 ∷ 117 ∷ 101 ∷ 10 ∷ [])
 
 -- the five lines that document 01 prints of the small frame
-abbrev document_text : List ℕ
+abbrev pub document_text : List ℕ
 document_text =
     heading_line
     ++ (48 ∷ 32 ∷ 48 ∷ 32 ∷ 49 ∷ 48 ∷ 48 ∷ 32 ∷ 53 ∷ 49 ∷ 32 ∷ 50 ∷ 48 ∷ 48 ∷ 10 ∷ [])

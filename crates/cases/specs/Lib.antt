@@ -3,4 +3,5 @@ pub mod GlazeCases
 pub mod StagedPlanes
 pub mod FrameCases
 pub mod AnswerCases
+pub mod FileCases
 pub mod Table
