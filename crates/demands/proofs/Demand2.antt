@@ -13,7 +13,7 @@ use Rattle.frame_file.specs.Lists.{Below}
 use Rattle.frame_file.specs.FrameFile.{sample_count, shape_of, write_answer, Reading, accepted, refused, answer_of, reading, read_answer}
 use Rattle.frame_file.proofs.AcceptedExactlyWhenWritten.{accepted_is_written}
 use Rattle.frame_file.proofs.ReadAndWrite.{Makes, written_makes, read_yields_what_write_makes}
-use Rattle.demands.specs.WhatCallsLeave.{Buffers, plane_of, DevelopLeaves, ReadLeaves, WriteLeaves}
+use Rattle.demands.specs.WhatCallsLeave.{Buffers, plane_of, DevelopLeaves, ReadCalled, WriteLeaves}
 
 -- ---- "The planes equal, number for number, the method of Chung and Chan (2010) in the whole-number form of document 01, ties and
 -- borders included."
@@ -80,25 +80,26 @@ module _ (f : Frame) (file : List ℕ) where
     call.file_left ∙ makes.left before same,
   )
 
-module _ (file : List ℕ) (bytes : Below 256 file) (before : List ℕ) where
-  found_made : (o : Reading) → reading file (length before) ≡ o → returned_by_read (answer_of o) ≡ success → Made file (length before)
-  found_made (accepted f) is e =
+module _ (file before : List ℕ) where
+  found_made : Below 256 file → (o : Reading) → reading file (length before) ≡ o → returned_by_read (answer_of o) ≡ success
+      → Made file (length before)
+  found_made bytes (accepted f) is e =
       let w = accepted_is_written file bytes (length before) f is in
       record { frame = f; made = makes_made f file (written_makes f file w.admitted w.written); enough = w.enough }
-  found_made (refused why) is e = refused_not_done why (returned_done (Err why) e)
+  found_made bytes (refused why) is e = refused_not_done why (returned_done (Err why) e)
 
-  module _ (answer : ReadAnswer) (left : List ℕ) (call : ReadLeaves file before answer left) where
+  module _ (answer : ReadAnswer) (left : List ℕ) (call : ReadCalled file before answer left) where
     -- "and reading yields that frame": W, H and the phase are returned, and the samples stand at the front of what was lent
     pub yields_that_frame : (f : Frame) → MadeFrom f file → sample_count f ≤ length before
         → (answer ≡ Ok (shape_of f)) × (left ≡ f.samples ++ drop (sample_count f) before)
     yields_that_frame f made enough =
-        let yields = (read_yields_what_write_makes file bytes before f).1 (made_makes f file made, enough) in
-        (call.answered ∙ yields.answered, call.samples_left ∙ yields.left)
+        let yields = (read_yields_what_write_makes file call.bytes before f).1 (made_makes f file made, enough) in
+        (call.leaves.answered ∙ yields.answered, call.leaves.samples_left ∙ yields.left)
 
     -- read returns 0, 0 exactly when write makes the file from some frame
     pub accepted_exactly_when_made : (returned_by_read answer ≡ success) ↔ Made file (length before)
     unfolding read_answer
     accepted_exactly_when_made = (
-      λ e. found_made (reading file (length before)) refl (sym (ap returned_by_read call.answered) ∙ e),
+      λ e. found_made call.bytes (reading file (length before)) refl (sym (ap returned_by_read call.leaves.answered) ∙ e),
       λ m. ap returned_by_read (yields_that_frame m.frame m.made m.enough).0,
     )

@@ -1,9 +1,11 @@
 -- bayer's functions: the contract of each, as the language hands it to a caller, says that the number and place of an answer are returned,
--- and that this answer and the lent buffers at the end are what `WhatCallsLeave` says; both ways. bayer_c exports them to C with the same
--- clauses. So all that is proved of the calls holds of the exports. Assumes nothing.
+-- and that this answer and the lent buffers at the end are what `WhatCallsLeave` says; both ways. It asks nothing of the caller, whatever
+-- is lent. bayer_c exports them to C with the same clauses. So all that is proved of the calls holds of the exports. Assumes nothing.
 use Rattle.std.specs.Prelude.{refl, ◌↔◌, List, ℕ, ℤ, length}
+use base.Logic.{ent}
 use contract.Lifetimes.{Lfts}
-use borrow.Fn.World.{ArgsD, ResD}
+use contract.Monad.{fact, conj}
+use borrow.Fn.World.{World, ArgsD, ResD, In}
 use borrow.Fn.Kinds.{ended_of}
 use denote.Triple.Clauses.{AtExit}
 use Rattle.frame.specs.Sites.{Frame, frame}
@@ -27,12 +29,16 @@ use Rattle.bayer.proofs.bayer_read.Reads as read_contract
 use Rattle.bayer.specs.contracts.bayer_write as write
 use Rattle.bayer.proofs.bayer_write.Kinds as write_kinds
 use Rattle.bayer.proofs.bayer_write.Reads as write_contract
-use Rattle.demands.specs.WhatCallsLeave.{Buffers, buffers, lengths_of, DevelopLeaves, ClampLeaves, CurveLeaves, ReadLeaves, WriteLeaves}
+use Rattle.demands.proofs.LentBytes.{called}
+use Rattle.demands.specs.WhatCallsLeave.{Buffers, buffers, lengths_of, DevelopLeaves, ClampLeaves, CurveLeaves, ReadLeaves, ReadCalled, WriteLeaves}
 
 -- bayer_clamp(plane, clamped)
 abbrev pub ClampReturns : List ℤ → List ℤ → Returned → List ℤ → Type 0
 ClampReturns numbers before r left =
     let answer = clamp_answer (length numbers) (length before) in Exported answer r × ClampLeaves numbers before answer left
+
+pub clamp_asks_nothing : (κs : Lfts 2) (a : ArgsD clamp.signature κs) → clamp_contract.Asked κs a
+clamp_asks_nothing κs a = tt
 
 pub clamp_returns : (κs : Lfts 2) (a : ArgsD clamp.signature κs) (r : ResD clamp.signature κs)
     (s : AtExit (ended_of 2 clamp_kinds.ps clamp_kinds.r) κs)
@@ -44,6 +50,9 @@ abbrev pub CurveReturns : List ℤ → List ℤ → Returned → List ℤ → Ty
 CurveReturns numbers before r left =
     let answer = curve_answer numbers (length before) in Exported answer r × CurveLeaves numbers before answer left
 
+pub curve_asks_nothing : (κs : Lfts 2) (a : ArgsD curve.signature κs) → curve_contract.Asked κs a
+curve_asks_nothing κs a = tt
+
 pub curve_returns : (κs : Lfts 2) (a : ArgsD curve.signature κs) (r : ResD curve.signature κs)
     (s : AtExit (ended_of 2 curve_kinds.ps curve_kinds.r) κs)
     → curve_contract.Learnt κs a r s ↔ CurveReturns a.0.now a.1.0.now r s.1.0.now
@@ -54,15 +63,31 @@ abbrev pub ReadReturns : List ℕ → List ℕ → ReadReturned → List ℕ →
 ReadReturns file before r left =
     let answer = read_answer file (length before) in ReadExported answer r × ReadLeaves file before answer left
 
+pub read_asks_nothing : (κs : Lfts 2) (a : ArgsD read.signature κs) → read_contract.Asked κs a
+read_asks_nothing κs a = tt
+
 pub read_returns : (κs : Lfts 2) (a : ArgsD read.signature κs) (r : ResD read.signature κs)
     (s : AtExit (ended_of 2 read_kinds.ps read_kinds.r) κs)
     → read_contract.Learnt κs a r s ↔ ReadReturns a.0.now a.1.0.now r s.1.0.now
 read_returns κs a r s = (λ p. (p.0, record { answered = refl; samples_left = p.1 }), λ q. (q.0, q.1.samples_left))
 
+-- and a call of it, as `read_called` of CallContracts
+pub read_called : (w : World) (κs : Lfts 2) (a : ArgsD read.signature κs) (r : ResD read.signature κs)
+    (s : AtExit (ended_of 2 read_kinds.ps read_kinds.r) κs)
+    → ent w.𝓤 (conj w.𝓤 (In read.signature κs a w) (fact w.𝓤 (read_contract.Learnt κs a r s)))
+    (fact w.𝓤
+    (let answer = read_answer a.0.now (length a.1.0.now) in ReadExported answer r × ReadCalled a.0.now a.1.0.now answer s.1.0.now))
+read_called w κs a r s =
+    called w read.signature.result κs a
+    (λ bytes learnt. let q = (read_returns κs a r s).0 learnt in (q.0, record { bytes = bytes; leaves = q.1 }))
+
 -- bayer_write(shape, mosaic, file)
 abbrev pub WriteReturns : Frame → List ℕ → Returned → List ℕ → Type 0
 WriteReturns f before r left =
     let answer = write_answer f (length before) in Exported answer r × WriteLeaves f before answer left
+
+pub write_asks_nothing : (κs : Lfts 2) (a : ArgsD write.signature κs) → write_contract.Asked κs a
+write_asks_nothing κs a = tt
 
 pub write_returns : (κs : Lfts 2) (a : ArgsD write.signature κs) (r : ResD write.signature κs)
     (s : AtExit (ended_of 2 write_kinds.ps write_kinds.r) κs)
@@ -73,6 +98,9 @@ write_returns κs a r s = (λ p. (p.0, record { answered = refl; file_left = p.1
 abbrev pub DevelopReturns : Frame → ℕ → Buffers → Returned → Buffers → Type 0
 DevelopReturns f b before r left =
     let answer = develop_answer f b (lengths_of before) in Exported answer r × DevelopLeaves f b before answer left
+
+pub develop_asks_nothing : (κs : Lfts 6) (a : ArgsD develop.signature κs) → develop_contract.Asked κs a
+develop_asks_nothing κs a = tt
 
 pub develop_returns : (κs : Lfts 6) (a : ArgsD develop.signature κs) (r : ResD develop.signature κs)
     (s : AtExit (ended_of 6 develop_kinds.ps develop_kinds.r) κs)

@@ -1,3 +1,4 @@
+pub mod LentBytes
 pub mod CallContracts
 pub mod Exports
 pub mod Rows

@@ -7,6 +7,7 @@ use Rattle.frame.specs.declared.Lengths.{Lengths}
 use Rattle.method.specs.Green.{decision_map}
 use Rattle.method.specs.Planes.{plane}
 use Rattle.tone_curve.specs.ToneCurve.{curved}
+use Rattle.frame_file.specs.Lists.{Below}
 use Rattle.frame_file.specs.FrameFile.{read_answer, samples_after_read, write_answer, file_after_write}
 use Rattle.develop.specs.LentBuffers.{lengths, KeptOnRefusal}
 
@@ -114,6 +115,11 @@ curved_left {f} calls i j = get_or calls.curving.left (i * f.width + j) (pos 0)
 pub record ReadLeaves (file before : List ℕ) (answer : ReadAnswer) (left : List ℕ) : Type 0 where
   pub answered : answer ≡ read_answer file (length before)
   pub samples_left : left ≡ samples_after_read file before
+
+-- a call of read: its file is lent as bytes, and it answers and leaves the room so
+pub record ReadCalled (file before : List ℕ) (answer : ReadAnswer) (left : List ℕ) : Type 0 where
+  pub bytes : Below 256 file
+  pub leaves : ReadLeaves file before answer left
 
 -- write, lent a frame and room for its file, answers and leaves the room so
 pub record WriteLeaves (f : Frame) (before : List ℕ) (answer : Answer) (left : List ℕ) : Type 0 where
