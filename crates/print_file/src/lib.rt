@@ -1,10 +1,11 @@
 // What a program does: it reads a frame file, composes the text of it in a tone, and writes that.
 #![tactic(auto)]
 
-ghost use Rattle.std.specs.Prelude.{◌<◌, length, take, IfOk, IfSome, OnOk};
+ghost use Rattle.std.specs.Prelude.{◌<◌, length, take, IfOk, IfSome, OnErr, OnOk};
 ghost use Rattle.std.specs.Io.{ReadsAtMost};
 ghost use Rattle.std.specs.Io.KnownBytes.{Appends, Consumes, IsAtEnd};
 ghost use Rattle.printing.specs.Printing.{printed};
+ghost use Rattle.print_file.specs.Parts.{AppendsFront};
 
 use printing::Tone;
 use std::io;
@@ -28,15 +29,36 @@ fn read_full<R: Read>(input: &mut R, file: &mut [u8]) -> io::Result<usize>
     Ok(length)
 }
 
-// Where the bytes of the input are known, and what the output holds, this grows by all that is printed of them. At most 2,049 bytes are
-// read: one more than a file may have, so that a longer one is seen, and endless input ends.
+// Writes all of the bytes, or those before a write that fails or takes none.
+fn write_full<W: Write>(output: &mut W, bytes: &[u8]) -> io::Result<()>
+    ensures whole { OnOk result (Appends (W.contents output.old) (W.contents output.new) bytes.now) }
+    ensures front { OnErr result (AppendsFront (W.contents output.old) (W.contents output.new) bytes.now) }
+{
+    let mut length = 0;
+    // `write_all` of std does not say what was written where it fails.
+    while length < bytes.len() {
+        let written = output.write(&bytes[length..])?;
+        if written == 0 {
+            return Err(io::Error::from(io::ErrorKind::WriteZero));
+        }
+        length += written;
+    }
+    Ok(())
+}
+
+// Where the bytes of the input are known, and what the output holds, this grows by all that is printed of them, or, where a read or a write
+// fails, by some front part of that: by none of it where a read failed. At most 2,049 bytes are read: one more than a file may have, so
+// that a longer one is seen, and endless input ends.
 pub fn print_file<R: Read, W: Write>(input: &mut R, output: &mut W, tone: Tone) -> io::Result<()>
-    ensures { OnOk result (IfSome (R.remaining input.old) (λ file.
+    ensures whole { OnOk result (IfSome (R.remaining input.old) (λ file.
         Appends (W.contents output.old) (W.contents output.new) (printed tone file))) }
+    ensures front { OnErr result (IfSome (R.remaining input.old) (λ file.
+        AppendsFront (W.contents output.old) (W.contents output.new) (printed tone file))) }
 {
     let mut file = [0u8; 2049];
     let length = read_full(input, &mut file)?;
-    output.write_all(
+    write_full(
+        output,
         frame_text::compose(&file[..length], tone)
             .as_str()
             .as_bytes(),
