@@ -1,4 +1,5 @@
--- The stored bytes and what is printed of them are as told, computed. Assumes nothing.
+-- The stored files are as told, by one computation, and what is printed of files, by what read finds in them. Assumes
+-- nothing.
 use Rattle.std.specs.Prelude.{◌≡◌, refl}
 use Rattle.toolkit.specs.Tables.{tabulate}
 use Rattle.toolkit.specs.Raster.{raster}

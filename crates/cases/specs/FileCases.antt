@@ -1,6 +1,6 @@
--- Document 01, "The frame file", and what the programs print of one: stored bytes, as docs/FORMAT.md and examples/glaze.bayr have them. A
--- definition that is wrong on both sides, for writing and for reading, breaks no law of the round trip; these rows tell it. Definitions
--- alone. Assumes nothing.
+-- Document 01, "The frame file": stored bytes, as docs/FORMAT.md and examples/glaze.bayr have them, and what the
+-- programs print of a file. A definition that is wrong for writing and reading alike breaks no law of the round trip;
+-- these rows tell it. Definitions alone. Assumes nothing.
 use Rattle.std.specs.Prelude.{List, [], ◌∷◌, ◌++◌, ℕ, replicate}
 use Rattle.frame.specs.declared.Refusal.TheVariants.{Filler}
 use Rattle.frame.specs.Sites.{Frame}
@@ -10,7 +10,7 @@ use Rattle.printing.specs.Printing.{refusal_text, printed}
 use Rattle.cases.specs.Row.{naturals, Case}
 use Rattle.cases.specs.GlazeCases.{small_frame, document_text}
 
--- W = 1,027 = 4·256 + 3, H = 522 = 2·256 + 10, phase 3: no two bytes of its header are alike. Block 0 reads no sample
+-- W = 1,027 = 4·256 + 3, H = 522 = 2·256 + 10, phase 3, which no two of their bytes share; block 0 reads no sample
 abbrev wide_frame : Frame
 wide_frame = record { width = 1027; height = 522; phase = 3; samples = [] }
 

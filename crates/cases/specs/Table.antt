@@ -1,5 +1,5 @@
--- The case table: document 01's glaze cases, the planes and the decision maps of two frames, develop's answers at black levels,
--- stored bytes and printed text. Definitions alone. Assumes nothing.
+-- The case table: document 01's glaze cases, the planes and the decision maps of two frames, develop's answers at black
+-- levels, stored files, and what is printed of files. Definitions alone. Assumes nothing.
 use Rattle.std.specs.Prelude.{List, ◌++◌}
 use Rattle.cases.specs.Row.{Case}
 use Rattle.cases.specs.GlazeCases.{glaze_cases}

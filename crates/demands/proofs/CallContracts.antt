@@ -1,6 +1,6 @@
--- The contract of each published call, as the language hands it to a caller, is what `WhatCallsLeave` says: one follows from the other,
--- both ways (`.._leaves`). It asks nothing of the caller, whatever is lent (`.._asks_nothing`). `a` is what the call is lent, r what it
--- returns, and s the lent buffers at its end. Assumes nothing.
+-- The contract of each published call, as the language hands it to a caller, is what `WhatCallsLeave` says: one follows
+-- from the other, both ways (`.._leaves`). It asks nothing of the caller, whatever is lent (`.._asks_nothing`). `a` is what
+-- the call is lent, r what it returns, and s the lent buffers at its end. Assumes nothing.
 use Rattle.std.specs.Prelude.{◌↔◌}
 use base.Logic.{ent}
 use contract.Lifetimes.{Lfts}
@@ -54,8 +54,8 @@ pub read_leaves : (κs : Lfts 2) (a : ArgsD read.signature κs) (r : ResD read.s
     → read_contract.Learnt κs a r s ↔ ReadLeaves a.0.now a.1.0.now r s.1.0.now
 read_leaves κs a r s = (λ p. record { answered = p.0; samples_left = p.1 }, λ q. (q.answered, q.samples_left))
 
--- what the language has of a call of read, what its arguments' types own at the beginning and what its contract tells at the end, is a
--- `ReadCalled`: the type of the file says that its entries are bytes
+-- what the language has of a call of read, what its arguments' types own at the beginning and what its contract tells at
+-- the end, is a `ReadCalled`: the type of the file says that its entries are bytes
 pub read_called : (w : World) (κs : Lfts 2) (a : ArgsD read.signature κs) (r : ResD read.signature κs)
     (s : AtExit (ended_of 2 read_kinds.ps read_kinds.r) κs)
     → ent w.𝓤 (conj w.𝓤 (In read.signature κs a w) (fact w.𝓤 (read_contract.Learnt κs a r s)))

@@ -1,6 +1,7 @@
--- bayer's functions: the contract of each, as the language hands it to a caller, says that the number and place of an answer are returned,
--- and that this answer and the lent buffers at the end are what `WhatCallsLeave` says; both ways. It asks nothing of the caller, whatever
--- is lent. bayer_c exports them to C with the same clauses. So all that is proved of the calls holds of the exports. Assumes nothing.
+-- bayer's functions: the contract of each, as the language hands it to a caller, says that the number and place of an
+-- answer are returned, and that this answer and the lent buffers at the end are what `WhatCallsLeave` says; both ways. It
+-- asks nothing of the caller, whatever is lent. bayer_c exports them to C with the same clauses. So all that is proved of
+-- the calls holds of the exports. Assumes nothing.
 use Rattle.std.specs.Prelude.{refl, ◌↔◌, List, ℕ, ℤ, length}
 use base.Logic.{ent}
 use contract.Lifetimes.{Lfts}

@@ -1,5 +1,6 @@
--- The type of a lent file, `&[u8]`: what it owns when a call begins says that every entry is below 256, whatever the call and in every
--- model of the language. So `read` and `bayer_read` are lent bytes, and no caller has to show it. Assumes nothing.
+-- The type of a lent file, `&[u8]`: what it owns when a call begins says that every entry is below 256, whatever the call
+-- and in every model of the language. So `read` and `bayer_read` are lent bytes, and no caller has to show it. Assumes
+-- nothing.
 use Rattle.std.specs.Prelude.{List, [], ◌∷◌, ℕ, zero, suc, ◌+◌}
 use Rattle.std.proofs.Common.{arith}
 use base.Fml.{Lft}

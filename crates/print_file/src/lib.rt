@@ -46,9 +46,10 @@ fn write_full<W: Write>(output: &mut W, bytes: &[u8]) -> io::Result<()>
     Ok(())
 }
 
-// Where the bytes of the input are known, and what the output holds, this grows by all that is printed of them, or, where a read or a write
-// fails, by some front part of that: by none of it where a read failed. At most 2,049 bytes are read: one more than a file may have, so
-// that a longer one is seen, and endless input ends.
+// Where the bytes of the input are known, and what the output holds, this grows by all that is printed of them. Where a
+// read or a write fails, it grows by some front part of that text: by none of it where a read failed, since nothing is
+// written before all is read; how far the input was read is left open. At most 2,049 bytes are read: one more than a file
+// may have, so that a longer one is seen, and endless input ends.
 pub fn print_file<R: Read, W: Write>(input: &mut R, output: &mut W, tone: Tone) -> io::Result<()>
     ensures whole { OnOk result (IfSome (R.remaining input.old) (λ file.
         Appends (W.contents output.old) (W.contents output.new) (printed tone file))) }

@@ -1,5 +1,5 @@
--- Lines in figures, as the programs print them: of a site whose row, column and three numbers all differ, and of a refusal with a place.
--- Assumes nothing.
+-- Lines in figures, as the programs print them: of a site whose row, column and three numbers all differ, and of a
+-- refusal with a place. Assumes nothing.
 use Rattle.std.specs.Prelude.{◌≡◌, refl, [], ◌∷◌, ◌++◌}
 use Rattle.frame.specs.declared.Refusal.TheVariants.{Filler}
 use Rattle.frame.specs.Sites.{Frame, red, green, blue}

@@ -99,6 +99,39 @@ fn counts_of_blocks() {
     assert_eq!(block_count(4_096, 4_096), 1 + 41_944);
 }
 
+/// A block's first bytes, then zeros, then its check.
+fn block_of(front: &[u8], check: [u8; 4]) -> Vec<u8> {
+    let mut block = front.to_vec();
+    block.resize(BLOCK - check.len(), 0);
+    block.extend(check);
+    block
+}
+
+/// The stored bytes that the case table has (crates/cases, FileCases).
+#[test]
+fn the_bytes_of_the_case_table() {
+    let file = |width, height, phase, samples| {
+        written(&Frame {
+            width,
+            height,
+            phase,
+            samples,
+        })
+    };
+    let tag = b"\0\0\0\0BAYR";
+    let wide = file(1_027, 522, 3, vec![0; 1_027 * 522]);
+    let header = block_of(&[&tag[..], &[3, 4, 10, 2, 3]].concat(), [191, 8, 0, 0]);
+    assert_eq!(wide[..BLOCK], header);
+    let tall = file(2, 202, 0, [vec![0; 400], vec![1_023, 0, 1, 2]].concat());
+    let second = block_of(&[2, 0, 0, 0, 255, 0, 0, 0, 147], [40, 10, 0, 0]);
+    assert_eq!(tall[2 * BLOCK..], second);
+    let header = block_of(&[&tag[..], &[2, 0, 2, 0, 0]].concat(), [247, 7, 0, 0]);
+    let samples = block_of(&[1, 0, 0, 0, 25, 10, 15, 50, 16], [67, 3, 0, 0]);
+    let glaze = file(2, 2, 0, vec![100, 40, 61, 200]);
+    assert_eq!(glaze, [header, samples].concat());
+    assert_eq!([399, 400, 401].map(|side| block_count(side, 1)), [2, 2, 3]);
+}
+
 #[test]
 fn round_trips_of_small_frames() {
     let mut generator = Generator::new(72);
