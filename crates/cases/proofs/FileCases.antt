@@ -5,7 +5,7 @@ use Rattle.toolkit.specs.Tables.{tabulate}
 use Rattle.toolkit.specs.Raster.{raster}
 use Rattle.toolkit.specs.Rounding.{round_half_up}
 use Rattle.frame.specs.Sites.{sample, highest_sample, side_allowed, phase_allowed, rggb, colour, reflect_once, reflect_times, reflect, around}
-use Rattle.frame.specs.Calls.{held, clamped, first_failing, samples_answer, answer_in_order, highest_black, black_answer, most_under, under_answer, lengths_fit, lengths_allowed, develop_answer}
+use Rattle.answers.specs.Calls.{held, clamped, first_failing, samples_answer, answer_in_order, highest_black, black_answer, most_under, under_answer, lengths_fit, lengths_allowed, develop_answer}
 use Rattle.method.specs.Gradients.{mosaic, apart, taps, six_tap, six_tap_pair, eastbound, east_gradient, west_gradient, gradients, gradients_at}
 use Rattle.method.specs.Green.{line_estimate, horizontal_estimate, half, estimate, threshold, outcome, first_pass, outcome_at, green_or, less_eight, trial_difference, reach, sum_about, column_sum, horizontal_sum, vertical_sum, diagonal_sum, least_sum, second_pass, second_pass_at, chroma_decision_at, green_at}
 use Rattle.method.specs.Planes.{inner_round, one_if_zero, count_zeros, weight, weights, times, sum_of_four, weighted_sum, total, weighted_mean, green_difference, straight, mean_two_off, fusion_share, fused, final_difference, corners, diagonally, corner_gradients, chroma_site_difference, colour_difference, green_quarters, quarters, final_round, output, less_black, plane}
@@ -14,7 +14,7 @@ use Rattle.frame_file.specs.Lists.{zeros, joined, part, all_zero, same_list}
 use Rattle.frame_file.specs.FrameFile as File
 use Rattle.printing.specs.Printing.{digits, decimal, numbers_line, heading, toned, toned_at, site_text, frame_text, refused_word, refusal_text, printed}
 use Rattle.printing.specs.declared.Tone.TheVariants.{Clamped}
-use Rattle.frame.specs.declared.Refusal.TheVariants.{BufferLength}
+use Rattle.answers.specs.declared.Refusal.TheVariants.{BufferLength}
 use Rattle.cases.specs.GlazeCases.{small_frame}
 use Rattle.cases.specs.Row.{all_given, all_told}
 use Rattle.cases.specs.FileCases.{glaze_file, long_file, stored_cases, printed_rows, printed_cases}

@@ -2,7 +2,7 @@
 -- programs print of a file. A definition that is wrong for writing and reading alike breaks no law of the round trip;
 -- these rows tell it. Definitions alone. Assumes nothing.
 use Rattle.std.specs.Prelude.{List, [], ◌∷◌, ◌++◌, ℕ, replicate}
-use Rattle.frame.specs.declared.Refusal.TheVariants.{Filler}
+use Rattle.answers.specs.declared.Refusal.TheVariants.{Filler}
 use Rattle.frame.specs.Sites.{Frame}
 use Rattle.frame_file.specs.FrameFile.{block_count, written_block, written_file}
 use Rattle.printing.specs.declared.Tone.TheVariants.{Clamped}

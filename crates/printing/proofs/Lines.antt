@@ -1,7 +1,7 @@
 -- Lines in figures, as the programs print them: of a site whose row, column and three numbers all differ, and of a
 -- refusal with a place. Assumes nothing.
 use Rattle.std.specs.Prelude.{◌≡◌, refl, [], ◌∷◌, ◌++◌}
-use Rattle.frame.specs.declared.Refusal.TheVariants.{Filler}
+use Rattle.answers.specs.declared.Refusal.TheVariants.{Filler}
 use Rattle.frame.specs.Sites.{Frame, red, green, blue}
 use Rattle.printing.specs.declared.Tone.{Tone}
 use Rattle.printing.specs.Printing.{digits, decimal, numbers_line, refused_word, refusal_text, toned_at, site_text}

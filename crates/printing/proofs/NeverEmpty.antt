@@ -2,8 +2,8 @@
 use Rattle.std.specs.Prelude.{List, ℕ, ◌<◌, ltb, length, Err, Ok}
 use Rattle.std.proofs.Common.{arith}
 use Rattle.toolkit.specs.Tests.{by_test}
-use Rattle.frame.specs.declared.Refusal.{Refusal}
-use Rattle.frame.specs.Calls.{Answer, develop_answer}
+use Rattle.answers.specs.declared.Refusal.{Refusal}
+use Rattle.answers.specs.Calls.{Answer, develop_answer}
 use Rattle.frame.specs.Sites.{Frame}
 use Rattle.frame_file.specs.FrameFile as File
 use Rattle.printing.specs.declared.Tone.{Tone}
