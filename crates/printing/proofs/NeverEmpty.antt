@@ -19,8 +19,8 @@ developed_never_empty tone f (Ok _) = omega arith
 developed_never_empty tone f (Err why) = refusal_never_empty why
 
 read_never_empty : (tone : Tone) (found : File.Reading) → 0 < length (text_of tone found)
-read_never_empty tone (File.accepted f) = developed_never_empty tone f (develop_answer f black_level (lent f))
-read_never_empty tone (File.refused why) = refusal_never_empty why
+read_never_empty tone (Ok f) = developed_never_empty tone f (develop_answer f black_level (lent f))
+read_never_empty tone (Err why) = refusal_never_empty why
 
 pub printed_never_empty : (tone : Tone) (file : List ℕ) → 0 < length (printed tone file)
 unfolding printed
