@@ -10,4 +10,3 @@ pub mod Demand3
 pub mod InnerSites
 pub mod CurveNumbers
 pub mod ToneCurve
-pub mod Table

@@ -3,4 +3,3 @@ pub mod Conditions
 pub mod Rows
 pub mod ReadRows
 pub mod ToneCurve
-pub mod Table
