@@ -2,7 +2,8 @@
 #![tactic(auto)]
 
 ghost use Rattle.std.specs.Prelude.{◌≡◌, length};
-ghost use Rattle.answers.specs.Calls.{held, clamped as clamped_plane, clamp_answer, after};
+ghost use Rattle.answers.specs.Calls.{held, clamped as clamped_plane};
+ghost use Rattle.calls.specs.WhatCallsLeave.{ClampLeaves};
 
 use answers::{Answer, Refusal};
 
@@ -28,8 +29,7 @@ fn hold_all(plane: &[i32], clamped: &mut [i32])
 // Clamps a plane of any numbers into one of equal length. A refusal leaves `clamped` as it was.
 #[tactic(auto, unfolding(answers::specs::Calls::clamp_answer, answers::specs::Calls::in_order))]
 pub fn clamp(plane: &[i32], clamped: &mut [i32]) -> Answer
-    ensures answer { result ≡ clamp_answer (length plane.now) (length clamped.old) }
-    ensures left { clamped.new ≡ after result (clamped_plane plane.now) clamped.old }
+    ensures { ClampLeaves plane.now clamped.old result clamped.new }
 {
     if clamped.len() != plane.len() {
         return Err(Refusal::BufferLength);

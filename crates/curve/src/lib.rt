@@ -5,8 +5,9 @@ mod table;
 
 ghost use Rattle.std.specs.Prelude.{◌≡◌, ◌≤◌, ◌&&◌, not, true, length};
 ghost use Rattle.std.specs.List.{fold, position_from};
-ghost use Rattle.answers.specs.Calls.{unclamped, unclamped_answer, curve_answer, Clamped, after, no_refusal};
+ghost use Rattle.answers.specs.Calls.{unclamped, unclamped_answer, Clamped, no_refusal};
 ghost use Rattle.tone_curve.specs.ToneCurve.{curve_entry, curved_number, curved as curved_plane};
+ghost use Rattle.calls.specs.WhatCallsLeave.{CurveLeaves};
 
 use answers::{Answer, Refusal};
 use table::CURVE;
@@ -79,8 +80,7 @@ fn curve_all(plane: &[i32], curved: &mut [i32])
 // Applies the curve to a clamped plane, into one of equal length. A refusal leaves `curved` as it was.
 #[tactic(auto, unfolding(answers::specs::Calls::curve_answer, answers::specs::Calls::in_order))]
 pub fn curve(plane: &[i32], curved: &mut [i32]) -> Answer
-    ensures answer { result ≡ curve_answer plane.now (length curved.old) }
-    ensures left { curved.new ≡ after result (curved_plane plane.now) curved.old }
+    ensures { CurveLeaves plane.now curved.old result curved.new }
 {
     if curved.len() != plane.len() {
         return Err(Refusal::BufferLength);

@@ -10,8 +10,9 @@ use Rattle.method.specs.Green.{decision_map}
 use Rattle.method.specs.Planes.{plane}
 use Rattle.correspondence.specs.Comparison.{Accepted}
 use Rattle.correspondence.proofs.Acceptance as method
-use Rattle.develop.specs.LentBuffers.{KeptOnRefusal}
-use Rattle.demands.specs.WhatCallsLeave.{Buffers, buffers, lengths_of, LengthsAllowed, DevelopLeaves, AcceptedByDevelop, Developed}
+use Rattle.calls.specs.Buffers.{Buffers, buffers, lengths_of, KeptOnRefusal}
+use Rattle.calls.specs.WhatCallsLeave.{DevelopLeaves}
+use Rattle.demands.specs.CallsMade.{LengthsAllowed, AcceptedByDevelop, Developed}
 
 -- ---- the lengths
 

@@ -1,5 +1,5 @@
--- The contract of each published call, as the language hands it to a caller, is what `WhatCallsLeave` says: one follows
--- from the other, both ways (`.._leaves`). It asks nothing of the caller, whatever is lent (`.._asks_nothing`). `a` is what
+-- The contract of each published call, as the language hands it to a caller, is its record of WhatCallsLeave: one is
+-- the other, both ways (`.._leaves`). It asks nothing of the caller, whatever is lent (`.._asks_nothing`). `a` is what
 -- the call is lent, r what it returns, and s the lent buffers at its end. Assumes nothing.
 use Rattle.std.specs.Prelude.{◌↔◌}
 use base.Logic.{ent}
@@ -24,8 +24,9 @@ use Rattle.reader.proofs.read.Reads as read_contract
 use Rattle.writer.specs.contracts.write as write
 use Rattle.writer.proofs.write.Kinds as write_kinds
 use Rattle.writer.proofs.write.Reads as write_contract
-use Rattle.demands.proofs.LentBytes.{called}
-use Rattle.demands.specs.WhatCallsLeave.{buffers, DevelopLeaves, ClampLeaves, CurveLeaves, ReadLeaves, ReadCalled, WriteLeaves}
+use Rattle.calls.proofs.LentBytes.{called}
+use Rattle.calls.specs.Buffers.{buffers}
+use Rattle.calls.specs.WhatCallsLeave.{DevelopLeaves, ClampLeaves, CurveLeaves, ReadLeaves, ReadCalled, WriteLeaves}
 
 -- clamp(plane, clamped)
 pub clamp_asks_nothing : (κs : Lfts 2) (a : ArgsD clamp.signature κs) → clamp_contract.Asked κs a
@@ -34,7 +35,7 @@ clamp_asks_nothing κs a = tt
 pub clamp_leaves : (κs : Lfts 2) (a : ArgsD clamp.signature κs) (r : ResD clamp.signature κs)
     (s : AtExit (ended_of 2 clamp_kinds.ps clamp_kinds.r) κs)
     → clamp_contract.Learnt κs a r s ↔ ClampLeaves a.0.now a.1.0.now r s.1.0.now
-clamp_leaves κs a r s = (λ p. record { answered = p.0; plane_left = p.1 }, λ q. (q.answered, q.plane_left))
+clamp_leaves κs a r s = (λ p. p, λ q. q)
 
 -- curve(plane, curved)
 pub curve_asks_nothing : (κs : Lfts 2) (a : ArgsD curve.signature κs) → curve_contract.Asked κs a
@@ -43,7 +44,7 @@ curve_asks_nothing κs a = tt
 pub curve_leaves : (κs : Lfts 2) (a : ArgsD curve.signature κs) (r : ResD curve.signature κs)
     (s : AtExit (ended_of 2 curve_kinds.ps curve_kinds.r) κs)
     → curve_contract.Learnt κs a r s ↔ CurveLeaves a.0.now a.1.0.now r s.1.0.now
-curve_leaves κs a r s = (λ p. record { answered = p.0; plane_left = p.1 }, λ q. (q.answered, q.plane_left))
+curve_leaves κs a r s = (λ p. p, λ q. q)
 
 -- read(file, samples)
 pub read_asks_nothing : (κs : Lfts 2) (a : ArgsD read.signature κs) → read_contract.Asked κs a
@@ -52,7 +53,7 @@ read_asks_nothing κs a = tt
 pub read_leaves : (κs : Lfts 2) (a : ArgsD read.signature κs) (r : ResD read.signature κs)
     (s : AtExit (ended_of 2 read_kinds.ps read_kinds.r) κs)
     → read_contract.Learnt κs a r s ↔ ReadLeaves a.0.now a.1.0.now r s.1.0.now
-read_leaves κs a r s = (λ p. record { answered = p.0; samples_left = p.1 }, λ q. (q.answered, q.samples_left))
+read_leaves κs a r s = (λ p. p, λ q. q)
 
 -- what the language has of a call of read, what its arguments' types own at the beginning and what its contract tells at
 -- the end, is a `ReadCalled`: the type of the file says that its entries are bytes
@@ -70,7 +71,7 @@ write_asks_nothing κs a = tt
 pub write_leaves : (κs : Lfts 2) (a : ArgsD write.signature κs) (r : ResD write.signature κs)
     (s : AtExit (ended_of 2 write_kinds.ps write_kinds.r) κs)
     → write_contract.Learnt κs a r s ↔ WriteLeaves (frame a.0 a.1.0.now) a.1.1.0.now r s.1.1.0.now
-write_leaves κs a r s = (λ p. record { answered = p.0; file_left = p.1 }, λ q. (q.answered, q.file_left))
+write_leaves κs a r s = (λ p. p, λ q. q)
 
 -- develop(shape, black, mosaic, red, green, blue, map, work)
 pub develop_asks_nothing : (κs : Lfts 6) (a : ArgsD develop.signature κs) → develop_contract.Asked κs a
@@ -84,14 +85,4 @@ pub develop_leaves : (κs : Lfts 6) (a : ArgsD develop.signature κs) (r : ResD 
     r
     (buffers s.1.1.1.0.now s.1.1.1.1.0.now s.1.1.1.1.1.0.now
     s.1.1.1.1.1.1.0.now s.1.1.1.1.1.1.1.0.now)
-develop_leaves κs a r s = (
-  λ p. record {
-    answered = p.0;
-    red_left = p.1.0;
-    green_left = p.1.1.0;
-    blue_left = p.1.1.1.0;
-    map_left = p.1.1.1.1.0;
-    work_left = p.1.1.1.1.1;
-  },
-  λ q. (q.answered, (q.red_left, (q.green_left, (q.blue_left, (q.map_left, q.work_left))))),
-)
+develop_leaves κs a r s = (λ p. p, λ q. q)

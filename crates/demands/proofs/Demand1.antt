@@ -7,7 +7,9 @@ use Rattle.std.proofs.Math.ListN.{length}
 use Rattle.frame.specs.Sites.{Frame}
 use Rattle.answers.specs.Calls.{success, returned, returned_by_read, lengths_allowed, develop_answer, clamp_answer, Answer, ReadAnswer, no_refusal}
 use Rattle.frame_file.specs.FrameFile.{file_length, Reading, answer_of, samples_of, reading, read_answer, samples_after_read, write_answer, file_after_write}
-use Rattle.demands.specs.WhatCallsLeave.{Buffers, buffers, lengths_of, LengthsAllowed, DevelopLeaves, ClampLeaves, CurveLeaves, ReadLeaves, WriteLeaves}
+use Rattle.calls.specs.Buffers.{Buffers, buffers, lengths_of}
+use Rattle.calls.specs.WhatCallsLeave.{DevelopLeaves, ClampLeaves, CurveLeaves, ReadLeaves, WriteLeaves}
+use Rattle.demands.specs.CallsMade.{LengthsAllowed}
 use Rattle.demands.proofs.Acceptance.{lengths_yes, yes_lengths}
 use Rattle.demands.specs.Conditions.{both_ways}
 use Rattle.demands.specs.Rows.{RowOf, develop_tests, write_tests, clamp_tests, curve_tests}

@@ -3,7 +3,7 @@ use Rattle.std.specs.Prelude.{◌≡◌, ◌↔◌, List, ◌++◌, ℕ, ◌+◌
 use Rattle.std.proofs.Math.Path.{refl, ap}
 use Rattle.std.proofs.Common.{sym, ◌∙◌}
 use Rattle.toolkit.specs.Raster.{length_raster, getD_raster}
-use Rattle.frame.specs.Sites.{Frame, Colour, red, green, blue}
+use Rattle.frame.specs.Sites.{Frame, Colour}
 use Rattle.answers.specs.Calls.{success, returned, returned_by_read, Answer, ReadAnswer}
 use Rattle.answers.proofs.Admission.{refused_not_done, returned_done}
 use Rattle.method.specs.Gradients.{mosaic}
@@ -13,7 +13,9 @@ use Rattle.frame_file.specs.Lists.{Below}
 use Rattle.frame_file.specs.FrameFile.{sample_count, shape_of, write_answer, Reading, answer_of, reading, read_answer}
 use Rattle.frame_file.proofs.AcceptedExactlyWhenWritten.{accepted_is_written}
 use Rattle.frame_file.proofs.ReadAndWrite.{Makes, written_makes, read_yields_what_write_makes}
-use Rattle.demands.specs.WhatCallsLeave.{Buffers, plane_of, DevelopLeaves, ReadCalled, WriteLeaves}
+use Rattle.calls.specs.Buffers.{Buffers, plane_of}
+use Rattle.calls.specs.WhatCallsLeave.{DevelopLeaves, ReadCalled, WriteLeaves}
+use Rattle.calls.proofs.Leaves.{planes_of_frame, map_of_frame}
 
 -- ---- "The planes equal, number for number, the method of Chung and Chan (2010) in the whole-number form of document 01, ties and
 -- borders included."
@@ -22,9 +24,7 @@ module _ (f : Frame) (b : ℕ) (before : Buffers) where
   -- a call of develop that returns 0, 0 leaves the planes of the method, less the black level
   pub planes_left : (answer : Answer) (left : Buffers) → DevelopLeaves f b before answer left → returned answer ≡ success
       → (c : Colour) → plane_of left c ≡ plane f b c
-  planes_left (Ok _) left call e red = call.red_left
-  planes_left (Ok _) left call e green = call.green_left
-  planes_left (Ok _) left call e blue = call.blue_left
+  planes_left (Ok _) left call e c = planes_of_frame call c
   planes_left (Err why) left call e c = refused_not_done why (returned_done (Err why) e)
 
   -- W·H entries, of which i·W + j is the method's number at (i,j); document 02, A2: less b
@@ -41,7 +41,7 @@ module _ (f : Frame) (b : ℕ) (before : Buffers) where
   -- document 02, A1: beside the planes it leaves the method's decisions
   pub decisions_left : (answer : Answer) (left : Buffers) → DevelopLeaves f b before answer left → returned answer ≡ success
       → left.map ≡ decision_map f
-  decisions_left (Ok _) left call e = call.map_left
+  decisions_left (Ok _) left call e = map_of_frame call
   decisions_left (Err why) left call e = refused_not_done why (returned_done (Err why) e)
 
   -- W·H entries, of which i·W + j is the code of the method's decision at (i,j)

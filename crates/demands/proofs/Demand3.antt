@@ -15,7 +15,7 @@ use Rattle.method.specs.Planes.{number_at, entry_at}
 use Rattle.correspondence.specs.Comparison.{Change, left_right, top_bottom, transposing, trading, changed, changed_by, row_after, column_after, name_after, count_transposes, transposes_oddly, exchanged_code, code_after, brightened, KeepsRange, SumsAreSamples, taken_off, NoneBelow}
 use Rattle.correspondence.proofs.Acceptance.{accepted_by_any}
 use Rattle.correspondence.proofs.Demand3 as method
-use Rattle.demands.specs.WhatCallsLeave.{AcceptedByDevelop, Developed, number_left, entry_left}
+use Rattle.demands.specs.CallsMade.{AcceptedByDevelop, Developed, number_left, entry_left}
 use Rattle.demands.proofs.Acceptance.{accepted_defined, defined_accepted, developed_accepted}
 use Rattle.demands.proofs.Demand2.{planes_left, decisions_left}
 

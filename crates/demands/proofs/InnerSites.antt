@@ -5,7 +5,7 @@ use Rattle.std.proofs.Common.{sym, ◌∙◌}
 use Rattle.frame.specs.Sites.{Frame, Colour}
 use Rattle.inner_sites.specs.FarSites.{FarFromEdges, SameWindow}
 use Rattle.inner_sites.proofs.InnerSites as inner
-use Rattle.demands.specs.WhatCallsLeave.{Developed, number_left, entry_left}
+use Rattle.demands.specs.CallsMade.{Developed, number_left, entry_left}
 use Rattle.demands.proofs.Demand3.{left_is, entry_is}
 
 -- two calls, at the same black level, whose frames are the same about (i,j) and (i',j')

@@ -1,6 +1,5 @@
-pub mod LentBytes
 pub mod CallContracts
-pub mod Exports
+pub mod RustContracts
 pub mod Rows
 pub mod ReadRows
 pub mod Acceptance

@@ -6,14 +6,17 @@ use Rattle.std.proofs.Math.Arith.{digits_lt}
 use Rattle.std.proofs.lemmas.List.{get_or-map, length-map}
 use Rattle.toolkit.specs.Tests.{eqb_yes}
 use Rattle.frame.specs.Sites.{Frame, Colour, red, green, blue}
-use Rattle.answers.specs.Calls.{in_order, success, returned, clamp_answer, held, clamped, unclamped_answer, after, Answer, Clamped}
+use Rattle.answers.specs.Calls.{in_order, success, returned, clamp_answer, held, clamped, unclamped_answer, Answer, Clamped}
 use Rattle.answers.proofs.Admission.{returned_done}
 use Rattle.answers.proofs.Clamped.{thirteen_in_figures, equal_lengths, curve_done}
 use Rattle.correspondence.specs.Comparison.{Change, changed_by, row_after, column_after, name_after}
 use Rattle.correspondence.proofs.ChangeLists.{green_keeps_name}
 use Rattle.tone_curve.specs.ToneCurve.{curved_number, curved}
 use Rattle.curve.proofs.Plane.{held_clamped, clamped_passes}
-use Rattle.demands.specs.WhatCallsLeave.{plane_of, Developed, number_left, ClampLeaves, CurveLeaves, PlaneClamped, PlaneCurved, DevelopedCurved, curved_left}
+use Rattle.calls.specs.Buffers.{plane_of}
+use Rattle.calls.specs.WhatCallsLeave.{ClampLeaves, CurveLeaves}
+use Rattle.calls.proofs.Leaves.{clamped_plane, curved_plane}
+use Rattle.demands.specs.CallsMade.{Developed, number_left, PlaneClamped, PlaneCurved, DevelopedCurved, curved_left}
 use Rattle.demands.specs.ToneCurve.{FollowsRule}
 use Rattle.demands.proofs.Acceptance.{developed_accepted}
 use Rattle.demands.proofs.Demand2.{numbers_left}
@@ -48,8 +51,7 @@ module _ {numbers : List ℤ} (call : PlaneCurved numbers) where
   each_clamped = ((accepted_exactly_when_clamped numbers call.before call.answer call.left call.leaves).0 call.succeeds).1
 
   plane_is : call.left ≡ curved numbers
-  plane_is =
-      call.leaves.plane_left ∙ ap (λ (a : Answer). after a (curved numbers) call.before) (returned_done call.answer call.succeeds)
+  plane_is = curved_plane (rw (returned_done call.answer call.succeeds) at call.leaves)
 
   -- there are as many numbers as were lent
   pub as_many_left : length call.left ≡ length numbers
@@ -94,9 +96,7 @@ module _ (numbers before : List ℤ) (answer : Answer) (left : List ℤ) where
 
 module _ {numbers : List ℤ} (clamping : PlaneClamped numbers) where
   clamped_plane_is : clamping.left ≡ clamped numbers
-  clamped_plane_is =
-      clamping.leaves.plane_left
-      ∙ ap (λ (a : Answer). after a (clamped numbers) clamping.before) (returned_done clamping.answer clamping.succeeds)
+  clamped_plane_is = clamped_plane (rw (returned_done clamping.answer clamping.succeeds) at clamping.leaves)
 
   as_many_clamped : length clamping.left ≡ length numbers
   unfolding clamped

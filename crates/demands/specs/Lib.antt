@@ -1,4 +1,4 @@
-pub mod WhatCallsLeave
+pub mod CallsMade
 pub mod Conditions
 pub mod Rows
 pub mod ReadRows

@@ -1,2 +1,1 @@
-pub mod LentBuffers
 pub mod Ready

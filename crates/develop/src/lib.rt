@@ -3,11 +3,12 @@
 
 ghost use Rattle.std.specs.Prelude.{◌≡◌, ◌*◌, ◌≤◌, [], ◌∷◌};
 ghost use Rattle.frame.specs.Sites.{frame as frame_of, Colour};
-ghost use Rattle.answers.specs.Calls.{in_order, black_answer, lengths_fit, develop_answer, after};
+ghost use Rattle.answers.specs.Calls.{in_order, black_answer, lengths_fit, develop_answer};
 ghost use Rattle.method.specs.Green.{decision_map};
 ghost use Rattle.method.specs.Planes.{plane};
 ghost use Rattle.admission.specs.ShapeTest.{shape_answer, count_answer};
-ghost use Rattle.develop.specs.LentBuffers.{lengths, KeptOnRefusal};
+ghost use Rattle.calls.specs.Buffers.{buffers, lengths_of};
+ghost use Rattle.calls.specs.WhatCallsLeave.{DevelopLeaves};
 ghost use Rattle.develop.specs.Ready.{Ready};
 
 use answers::{Answer, Lengths, Refusal};
@@ -62,7 +63,7 @@ fn run(
     map: &mut [u8],
     work: &mut [i32],
 )
-    requires { Ready (frame_of shape mosaic.now) black (lengths red.old green.old blue.old map.old work.old) }
+    requires { Ready (frame_of shape mosaic.now) black (lengths_of (buffers red.old green.old blue.old map.old work.old)) }
     ensures red_after { red.new ≡ plane (frame_of shape mosaic.now) black Colour.red }
     ensures green_after { green.new ≡ plane (frame_of shape mosaic.now) black Colour.green }
     ensures blue_after { blue.new ≡ plane (frame_of shape mosaic.now) black Colour.blue }
@@ -94,13 +95,9 @@ pub fn develop(
     map: &mut [u8],
     work: &mut [i32],
 ) -> Answer
-    ensures answer { result ≡ develop_answer (frame_of shape mosaic.now) black
-        (lengths red.old green.old blue.old map.old work.old) }
-    ensures red_left { red.new ≡ after result (plane (frame_of shape mosaic.now) black Colour.red) red.old }
-    ensures green_left { green.new ≡ after result (plane (frame_of shape mosaic.now) black Colour.green) green.old }
-    ensures blue_left { blue.new ≡ after result (plane (frame_of shape mosaic.now) black Colour.blue) blue.old }
-    ensures map_left { map.new ≡ after result (decision_map (frame_of shape mosaic.now)) map.old }
-    ensures work_left { KeptOnRefusal result work.old work.new }
+    ensures { DevelopLeaves (frame_of shape mosaic.now) black
+        (buffers red.old green.old blue.old map.old work.old) result
+        (buffers red.new green.new blue.new map.new work.new) }
 {
     let lengths = Lengths {
         red: red.len(),

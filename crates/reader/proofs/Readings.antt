@@ -22,6 +22,7 @@ use Rattle.frame_file.specs.Lists.{all_zero}
 use Rattle.frame_file.specs.FrameFile.{block, header, header_filler, sample_count, block_count, file_length, stored_samples, stored_frame, Reading, length_allowed, check_holds, number_holds, header_allowed, block_tests, read_tests, reading, read_answer, samples_after_read}
 use Rattle.frame_file.specs.FrameFile as File
 use Rattle.frame_file.proofs.ReadTests.{allowed_header}
+use Rattle.calls.specs.WhatCallsLeave.{ReadLeaves}
 use Rattle.reader.specs.ReadSteps.{header_answer, first_answer}
 
 -- the first five tests are one function of the code
@@ -93,12 +94,12 @@ pub record Counted (file : List ℕ) (shape : Shape) (m blocks : ℕ) : Type 0 w
 module _ (file before : List ℕ) where
   -- what read returns and leaves
   abbrev pub Returns : ReadAnswer → List ℕ → Type 0
-  Returns a last = (a ≡ read_answer file (length before)) × (last ≡ samples_after_read file before)
+  Returns = ReadLeaves file before
 
   -- a refusal is answered, and leaves the samples
   refused_so : (why : Refusal) → reading file (length before) ≡ Err why → Returns (Err why) before
   unfolding read_answer samples_after_read
-  refused_so why e = (rw e, rw e)
+  refused_so why e = record { answered = rw e; samples_left = rw e }
 
   pub first_refused : (why : Refusal) → first_answer file ≡ Err why → Returns (Err why) before
   unfolding in_order
@@ -146,9 +147,10 @@ module _ (file before : List ℕ) where
             → last ≡ stored_samples file (length (take (m - 0) before))
             → Returns (Ok shape) (last ++ drop (m - 0) before)
         unfolding read_answer samples_after_read stored_frame
-        all_read e last el = (
-          ap (λ (s : Shape). Ok s) k.shape_is ∙ sym (ap File.answer_of (reading_here e)),
-          ap₂ (λ (s : List ℕ) (n : ℕ). s ++ drop n before) (el ∙ ap (stored_samples file) (front_size ∙ sym count_is))
+        all_read e last el = record {
+          answered = ap (λ (s : Shape). Ok s) k.shape_is ∙ sym (ap File.answer_of (reading_here e));
+          samples_left =
+              ap₂ (λ (s : List ℕ) (n : ℕ). s ++ drop n before) (el ∙ ap (stored_samples file) (front_size ∙ sym count_is))
               (sub-zero m ∙ sym count_is)
-              ∙ sym (ap (λ (o : Reading). File.samples_of o before) (reading_here e)),
-        )
+              ∙ sym (ap (λ (o : Reading). File.samples_of o before) (reading_here e));
+        }

@@ -4,7 +4,8 @@
 ghost use Rattle.std.specs.Prelude.{◌≡◌, ◌+◌, ◌*◌, ◌-◌, ◌≤◌, length};
 ghost use Rattle.answers.specs.Calls.{in_order};
 ghost use Rattle.frame_file.specs.Lists.{all_zero};
-ghost use Rattle.frame_file.specs.FrameFile.{header, block_count, block_tests, stored_samples, read_answer, samples_after_read};
+ghost use Rattle.frame_file.specs.FrameFile.{header, block_count, block_tests, stored_samples};
+ghost use Rattle.calls.specs.WhatCallsLeave.{ReadLeaves};
 ghost use Rattle.reader.specs.ReadSteps.{header_answer, first_answer, later_answer};
 
 use answers::{Answer, ReadAnswer, Refusal};
@@ -101,8 +102,7 @@ fn unpack_blocks(file: &[u8], samples: &mut [u16])
 // Reads a frame file: its W, H and phase are answered, and its samples stand at the front of `samples`. A refusal leaves `samples`
 // as it was.
 pub fn read(file: &[u8], samples: &mut [u16]) -> ReadAnswer
-    ensures answer { result ≡ read_answer file.now (length samples.old) }
-    ensures left { samples.new ≡ samples_after_read file.now samples.old }
+    ensures { ReadLeaves file.now samples.old result samples.new }
 {
     test_first(file)?;
     let shape = header_of(block::at(file, 0));

@@ -20,6 +20,7 @@ use Rattle.admission.specs.InOrder.{shape_first, count_is}
 use Rattle.admission.specs.Allowed.{shape_passes, count_passes, count_most}
 use Rattle.frame_file.specs.Lists.{below_from}
 use Rattle.frame_file.specs.FrameFile.{block_count, file_length, written_file, write_answer, file_after_write}
+use Rattle.calls.specs.WhatCallsLeave.{WriteLeaves}
 use Rattle.writer.specs.Ready.{Ready}
 
 module _ (shape : Shape) (mosaic file : List ℕ) where
@@ -39,12 +40,12 @@ module _ (shape : Shape) (mosaic file : List ℕ) where
 
   -- what write returns and leaves
   abbrev pub Wrote : Answer → List ℕ → Type 0
-  Wrote a last = (a ≡ answer) × (last ≡ file_after_write (frame shape mosaic) file)
+  Wrote = WriteLeaves (frame shape mosaic) file
 
   -- a refusal is answered, and leaves the file
   refused_so : (why : Refusal) → answer ≡ Err why → Wrote (Err why) file
   unfolding file_after_write
-  refused_so why e = (sym e, rw e)
+  refused_so why e = record { answered = sym e; file_left = rw e }
 
   pub shape_refused : (why : Refusal) → shape_answer shape ≡ Err why → Wrote (Err why) file
   unfolding in_order
@@ -87,4 +88,4 @@ module _ (shape : Shape) (mosaic file : List ℕ) where
 
         pub all_written : (last : List ℕ) → last ≡ written_file (frame shape mosaic) → Wrote no_refusal last
         unfolding file_after_write in_order
-        all_written last e = let d : answer ≡ no_refusal = answer_is ∙ rw (done, count, right_size, small) in (sym d, rw d e)
+        all_written last e = let d : answer ≡ no_refusal = answer_is ∙ rw (done, count, right_size, small) in record { answered = sym d; file_left = rw d e }

@@ -4,7 +4,8 @@
 ghost use Rattle.std.specs.Prelude.{◌≡◌, ◌*◌, ◌-◌, ◌≤◌, length};
 ghost use Rattle.frame.specs.Sites.{frame as frame_of};
 ghost use Rattle.frame_file.specs.Lists.{Below, part};
-ghost use Rattle.frame_file.specs.FrameFile.{filled_up, with_check, header_bytes, sample_bytes, written_file, write_answer, file_after_write};
+ghost use Rattle.frame_file.specs.FrameFile.{filled_up, with_check, header_bytes, sample_bytes, written_file};
+ghost use Rattle.calls.specs.WhatCallsLeave.{WriteLeaves};
 ghost use Rattle.writer.specs.Ready.{Ready};
 
 use answers::{Answer, Refusal};
@@ -77,8 +78,7 @@ fn write_blocks(file: &mut [u8], shape: Shape, mosaic: &[u16])
 
 // Writes the frame file of a shape and a mosaic. A refusal leaves the file as it was.
 pub fn write(shape: Shape, mosaic: &[u16], file: &mut [u8]) -> Answer
-    ensures answer { result ≡ write_answer (frame_of shape mosaic.now) (length file.old) }
-    ensures left { file.new ≡ file_after_write (frame_of shape mosaic.now) file.old }
+    ensures { WriteLeaves (frame_of shape mosaic.now) file.old result file.new }
 {
     admission::test_shape(shape)?;
     admission::test_count(shape, mosaic.len())?;

@@ -8,11 +8,10 @@ use Rattle.frame_text.proofs.developed_text.Goals as goal
 
 pub invariant_of-planes_text : goal.invariant_of-planes_text
 invariant_of-planes_text c =
-    let f = frame c.args.shape c.args.mosaic.now in
-    let left = c.in_ok-develop.ensures in
-    let same = same_lengths c.args.tone f left.red_left left.green_left left.blue_left in
+    let left : Left (frame c.args.shape c.args.mosaic.now) _ _ _ = record { leaves = c.develop.ensures; done = c.in_ok-develop.was } in
+    let same = same_lengths left c.args.tone in
     record {
-      wide = wide f _ c.develop.ensures.answer c.in_ok-develop.was;
+      wide = wide left;
       greens = rw (c.give_tone.ensures, c.give_tone-2.ensures) same.0;
       blues = rw (c.give_tone.ensures, c.give_tone-3.ensures) same.1;
     }
@@ -26,14 +25,7 @@ planes_text-requires-clause-clamped_numbers c = (
 
 pub returns : goal.returns
 returns c =
-    let f = frame c.args.shape c.args.mosaic.now in
-    let left : Left f _ _ _ _ _ c.develop.result _ _ _ = record {
-      answered = c.develop.ensures.answer;
-      done = c.in_ok-develop.was;
-      red_left = c.develop.ensures.red_left;
-      green_left = c.develop.ensures.green_left;
-      blue_left = c.develop.ensures.blue_left;
-    } in
+    let left : Left (frame c.args.shape c.args.mosaic.now) _ _ _ = record { leaves = c.develop.ensures; done = c.in_ok-develop.was } in
     let lent : PlanesLent (c.args.shape.height * c.args.shape.width) _ _ _ _ _ = record {
       red_size = search rules;
       green_size = search rules;

@@ -23,5 +23,5 @@ developed_text-requires c = search (rules, few)
 pub returns : goal.returns
 returns c =
     subst (Composes c.developed_text.result)
-    (simp sub-zero at (frame_printed _ _ refl c.args.tone _ _ c.in_ok-shape.ensures.answer c.in_ok-shape.ensures.left))
+    (simp sub-zero at (frame_printed _ _ refl c.args.tone _ _ c.in_ok-shape.ensures.answered c.in_ok-shape.ensures.samples_left))
     c.developed_text.ensures

@@ -4,4 +4,4 @@ use Rattle.frame_text.specs.Composing.{clamp_allowed}
 use Rattle.frame_text.proofs.give_tone.Goals as goal
 
 pub unwrap-requires : goal.unwrap-requires
-unwrap-requires c = rw (c.clamp.ensures.answer ∙ clamp_allowed _ _ (search rules)) refl
+unwrap-requires c = rw (c.clamp.ensures.answered ∙ clamp_allowed _ _ (search rules)) refl

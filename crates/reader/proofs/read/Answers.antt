@@ -20,8 +20,7 @@ counted file e d f s m b = record { done = sym e ∙ d; shape_is = s ∙ ap head
 pub returns-in_err-test_first : goal.returns-in_err-test_first
 returns-in_err-test_first c =
     let back = err_from_is_err_and c.from_residual.result c.from_residual.ensures.1 in
-    let whole = first_refused _ _ _ (sym c.test_first.ensures ∙ c.in_err-test_first.was) in
-    record { answer = rw (back.1, back.2) whole.0; left = whole.1 }
+    rw (back.1, back.2) (first_refused _ _ _ (sym c.test_first.ensures ∙ c.in_err-test_first.was))
 
 pub at-requires : goal.at-requires
 at-requires c = let long = file_long _ (sym c.test_first.ensures ∙ c.in_ok-test_first.was) in omega arith
@@ -33,15 +32,15 @@ sample_count-count-requires c =
 
 pub returns-then-file-size : goal.returns-then-file-size
 returns-then-file-size c =
-    let whole = size_refused _ _ _ _ _
+    size_refused _ _ _ _ _
     (counted c.args.file.now c.test_first.ensures c.in_ok-test_first.was c.at.ensures c.header_of-shape.ensures c.sample_count-count.ensures.0 c.count_for-blocks.ensures.0)
-    c.if-file-size.true in record { answer = whole.0; left = whole.1 }
+    c.if-file-size.true
 
 pub returns-then-samples-count : goal.returns-then-samples-count
 returns-then-samples-count c =
-    let whole = room_refused _ _ _ _ _
+    room_refused _ _ _ _ _
     (counted c.args.file.now c.test_first.ensures c.in_ok-test_first.was c.at.ensures c.header_of-shape.ensures c.sample_count-count.ensures.0 c.count_for-blocks.ensures.0)
-    c.if-file-size.false c.if-samples-count.true in record { answer = whole.0; left = whole.1 }
+    c.if-file-size.false c.if-samples-count.true
 
 pub unpack_blocks-requires : goal.unpack_blocks-requires
 unpack_blocks-requires c =
@@ -52,16 +51,15 @@ unpack_blocks-requires c =
 pub returns-in_err-test_blocks : goal.returns-in_err-test_blocks
 returns-in_err-test_blocks c =
     let back = err_from_is_err_and c.from_residual-in_err-test_blocks.result c.from_residual-in_err-test_blocks.ensures.1 in
-    let whole = blocks_refused _ _ _ _ _
+    rw (back.1, back.2) (blocks_refused _ _ _ _ _
     (counted c.args.file.now c.test_first.ensures c.in_ok-test_first.was c.at.ensures c.header_of-shape.ensures c.sample_count-count.ensures.0 c.count_for-blocks.ensures.0)
     c.if-file-size.false c.if-samples-count.false _
-    (sym c.test_blocks.ensures ∙ c.in_err-test_blocks.was) in
-    record { answer = rw (back.1, back.2) whole.0; left = whole.1 }
+    (sym c.test_blocks.ensures ∙ c.in_err-test_blocks.was))
 
 pub returns : goal.returns
 returns c =
-    let whole = all_read _ _ _ _ _
+    all_read _ _ _ _ _
     (counted c.args.file.now c.test_first.ensures c.in_ok-test_first.was c.at.ensures c.header_of-shape.ensures c.sample_count-count.ensures.0 c.count_for-blocks.ensures.0)
     c.if-file-size.false c.if-samples-count.false
     (sym c.test_blocks.ensures ∙ c.in_ok-test_blocks.was) _
-    c.unpack_blocks.ensures in record { answer = whole.0; left = whole.1 }
+    c.unpack_blocks.ensures

@@ -9,8 +9,7 @@ use Rattle.writer.proofs.write.Goals as goal
 pub returns-in_err-test_shape : goal.returns-in_err-test_shape
 returns-in_err-test_shape c =
     let back = err_from_is_err_and c.from_residual.result c.from_residual.ensures.1 in
-    let whole = shape_refused _ _ _ _ (sym c.test_shape.ensures ∙ c.in_err-test_shape.was) in
-    record { answer = rw (back.1, back.2) whole.0; left = whole.1 }
+    rw (back.1, back.2) (shape_refused _ _ _ _ (sym c.test_shape.ensures ∙ c.in_err-test_shape.was))
 
 pub test_count-requires : goal.test_count-requires
 test_count-requires c = let a = shape_passes c.args.shape (sym c.test_shape.ensures ∙ c.in_ok-test_shape.was) in (a.width, a.height)
@@ -18,9 +17,8 @@ test_count-requires c = let a = shape_passes c.args.shape (sym c.test_shape.ensu
 pub returns-in_err-test_count : goal.returns-in_err-test_count
 returns-in_err-test_count c =
     let back = err_from_is_err_and c.from_residual-in_err-test_count.result c.from_residual-in_err-test_count.ensures.1 in
-    let whole = count_refused _ _ _ (sym c.test_shape.ensures ∙ c.in_ok-test_shape.was) _
-    (sym c.test_count.ensures ∙ c.in_err-test_count.was) in
-    record { answer = rw (back.1, back.2) whole.0; left = whole.1 }
+    rw (back.1, back.2) (count_refused _ _ _ (sym c.test_shape.ensures ∙ c.in_ok-test_shape.was) _
+    (sym c.test_count.ensures ∙ c.in_err-test_count.was))
 
 pub count_for-size-requires : goal.count_for-size-requires
 count_for-size-requires c = count_most c.args.shape _ (sym c.test_shape.ensures ∙ c.in_ok-test_shape.was)
@@ -28,8 +26,8 @@ count_for-size-requires c = count_most c.args.shape _ (sym c.test_shape.ensures 
 
 pub returns-then-file-size : goal.returns-then-file-size
 returns-then-file-size c =
-    let whole = size_refused _ _ _ (sym c.test_shape.ensures ∙ c.in_ok-test_shape.was) (sym c.test_count.ensures ∙ c.in_ok-test_count.was)
-    (λ q. c.if-file-size.true (q ∙ ap (λ (n : ℕ). 512 * n) (sym c.count_for-size.ensures.0))) in record { answer = whole.0; left = whole.1 }
+    size_refused _ _ _ (sym c.test_shape.ensures ∙ c.in_ok-test_shape.was) (sym c.test_count.ensures ∙ c.in_ok-test_count.was)
+    (λ q. c.if-file-size.true (q ∙ ap (λ (n : ℕ). 512 * n) (sym c.count_for-size.ensures.0)))
 
 pub write_blocks-requires : goal.write_blocks-requires
 write_blocks-requires c =
@@ -40,13 +38,12 @@ write_blocks-requires c =
 pub returns-in_err-test_samples : goal.returns-in_err-test_samples
 returns-in_err-test_samples c =
     let back = err_from_is_err_and c.from_residual-in_err-test_samples.result c.from_residual-in_err-test_samples.ensures.1 in
-    let whole = samples_refused _ _ _ (sym c.test_shape.ensures ∙ c.in_ok-test_shape.was) (sym c.test_count.ensures ∙ c.in_ok-test_count.was)
+    rw (back.1, back.2) (samples_refused _ _ _ (sym c.test_shape.ensures ∙ c.in_ok-test_shape.was) (sym c.test_count.ensures ∙ c.in_ok-test_count.was)
     (c.if-file-size.false ∙ ap (λ (n : ℕ). 512 * n) c.count_for-size.ensures.0) _
-    (sym c.test_samples.ensures ∙ c.in_err-test_samples.was) in
-    record { answer = rw (back.1, back.2) whole.0; left = whole.1 }
+    (sym c.test_samples.ensures ∙ c.in_err-test_samples.was))
 
 pub returns : goal.returns
 returns c =
-    let whole = all_written _ _ _ (sym c.test_shape.ensures ∙ c.in_ok-test_shape.was) (sym c.test_count.ensures ∙ c.in_ok-test_count.was)
+    all_written _ _ _ (sym c.test_shape.ensures ∙ c.in_ok-test_shape.was) (sym c.test_count.ensures ∙ c.in_ok-test_count.was)
     (c.if-file-size.false ∙ ap (λ (n : ℕ). 512 * n) c.count_for-size.ensures.0) (sym c.test_samples.ensures ∙ c.in_ok-test_samples.was)
-    _ c.write_blocks.ensures in record { answer = whole.0; left = whole.1 }
+    _ c.write_blocks.ensures
