@@ -3,7 +3,7 @@
 #![tactic(auto)]
 
 ghost use Rattle.std.specs.Prelude.{◌≡◌, length};
-ghost use Rattle.frame.specs.Sites.{frame as frame_of, Colour};
+ghost use Rattle.frame.specs.Sites.{frame as frame_of, highest_sample, Colour};
 ghost use Rattle.answers.specs.Calls.{develop_answer, clamp_answer, curve_answer, clamped as clamped_plane, after};
 ghost use Rattle.tone_curve.specs.ToneCurve.{curved as curved_plane};
 ghost use Rattle.method.specs.Green.{decision_map};
@@ -38,7 +38,7 @@ pub extern "C" fn bayer_write(shape: Shape, mosaic: &[u16], file: &mut [u8]) -> 
 pub extern "C" fn bayer_clamp(plane: &[i32], clamped: &mut [i32]) -> Returned
     ensures answer { Exported (clamp_answer (length plane.now) (length clamped.old)) result }
     ensures left { clamped.new ≡ after (clamp_answer (length plane.now) (length clamped.old))
-        (clamped_plane plane.now) clamped.old }
+        (clamped_plane highest_sample plane.now) clamped.old }
 {
     bayer::bayer_clamp(plane, clamped)
 }

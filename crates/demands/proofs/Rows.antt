@@ -128,6 +128,7 @@ clamped_decides v =
     rw (not_either (lt_z v (pos 0)) (lt_z (pos 1023) v)) (both_decide (not_below_decides v (pos 0)) (not_below_decides (pos 1023) v))
 
 below_or_above : (v : ℤ) → ¬ Clamped v → (v <ℤ pos 0) ⊎ (pos 1023 <ℤ v)
+unfolding highest_sample
 below_or_above v refuted = by_lt_z v (pos 0) inl (λ low. by_lt_z (pos 1023) v inr (λ high. absurd (refuted (low, high))))
 
 module _ (numbers : List ℤ) (filled : ℕ) where

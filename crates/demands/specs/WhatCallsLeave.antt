@@ -1,7 +1,7 @@
 -- What each published call returns and leaves, from what it is lent: word for word the call's contract, as `CallContracts` shows.
 -- Definitions alone. Assumes nothing.
 use Rattle.std.specs.Prelude.{◌≡◌, List, ℕ, ◌+◌, ◌*◌, ◌≤◌, ℤ, pos, length, get_or}
-use Rattle.frame.specs.Sites.{Frame, Colour, red, green, blue}
+use Rattle.frame.specs.Sites.{Frame, highest_sample, Colour, red, green, blue}
 use Rattle.answers.specs.Calls.{success, returned, develop_answer, clamp_answer, clamped, curve_answer, after, Answer, ReadAnswer}
 use Rattle.answers.specs.declared.Lengths.{Lengths}
 use Rattle.method.specs.Green.{decision_map}
@@ -76,7 +76,7 @@ entry_left {f} call i j = get_or call.left.map (i * f.width + j) 0
 -- clamp, lent a plane of numbers and one to fill, answers and leaves the latter so
 pub record ClampLeaves (numbers before : List ℤ) (answer : Answer) (left : List ℤ) : Type 0 where
   pub answered : answer ≡ clamp_answer (length numbers) (length before)
-  pub plane_left : left ≡ after answer (clamped numbers) before
+  pub plane_left : left ≡ after answer (clamped highest_sample numbers) before
 
 -- curve, lent a plane of numbers and one to fill, answers and leaves the latter so
 pub record CurveLeaves (numbers before : List ℤ) (answer : Answer) (left : List ℤ) : Type 0 where
