@@ -1,7 +1,7 @@
 -- What each published call answers and leaves, from what it is lent: one record for each call, which is the whole
 -- contract of the call. Definitions alone. Assumes nothing.
 use Rattle.std.specs.Prelude.{◌≡◌, List, ℕ, ℤ, length}
-use Rattle.frame.specs.Sites.{Frame, red, green, blue}
+use Rattle.frame.specs.Sites.{Frame, highest_sample, red, green, blue}
 use Rattle.answers.specs.Calls.{develop_answer, clamp_answer, clamped, curve_answer, after, Answer, ReadAnswer}
 use Rattle.method.specs.Green.{decision_map}
 use Rattle.method.specs.Planes.{plane}
@@ -22,7 +22,7 @@ pub record DevelopLeaves (f : Frame) (b : ℕ) (before : Buffers) (answer : Answ
 -- clamp, lent a plane of numbers and one to fill, answers and leaves the latter so
 pub record ClampLeaves (numbers before : List ℤ) (answer : Answer) (left : List ℤ) : Type 0 where
   pub answered : answer ≡ clamp_answer (length numbers) (length before)
-  pub plane_left : left ≡ after answer (clamped numbers) before
+  pub plane_left : left ≡ after answer (clamped highest_sample numbers) before
 
 -- curve, lent a plane of numbers and one to fill, answers and leaves the latter so
 pub record CurveLeaves (numbers before : List ℤ) (answer : Answer) (left : List ℤ) : Type 0 where

@@ -2,6 +2,7 @@
 use Rattle.std.specs.Prelude.{List, [], ◌∷◌, ◌++◌, ℕ, pos, negsuc}
 use Rattle.cases.specs.Row.{site, takes, numbers, naturals, Case}
 use Rattle.frame.specs.Sites.{Frame, red, green, blue}
+use Rattle.method.specs.Settings.{threshold}
 use Rattle.method.specs.Gradients.{FourDirections, mosaic, gradients_at}
 use Rattle.method.specs.Green.{horizontal, diagonal, strong_down, weak, outcome, first_pass_or}
 use Rattle.method.specs.Planes.{weighted_mean, final_round, plane}
@@ -60,13 +61,13 @@ glaze_cases =
       told = naturals (100 ∷ 90 ∷ 111 ∷ 100 ∷ 51 ∷ 40 ∷ 61 ∷ 51 ∷ 200 ∷ 190 ∷ 211 ∷ 200 ∷ []);
     }
     -- K2: h,v = 17,10 weak
-    ∷ record { given = site (outcome 17 10) ∷ []; told = site weak ∷ [] }
+    ∷ record { given = site (outcome threshold 17 10) ∷ []; told = site weak ∷ [] }
     -- K3: 18,10 strong, down
-    ∷ record { given = site (outcome 18 10) ∷ []; told = site strong_down ∷ [] }
+    ∷ record { given = site (outcome threshold 18 10) ∷ []; told = site strong_down ∷ [] }
     -- K4: 7,0 strong
-    ∷ record { given = site (outcome 7 0) ∷ []; told = site strong_down ∷ [] }
+    ∷ record { given = site (outcome threshold 7 0) ∷ []; told = site strong_down ∷ [] }
     -- K5: 0,0 takes gD
-    ∷ record { given = takes (first_pass_or (outcome 0 0) horizontal) ∷ []; told = takes diagonal ∷ [] }
+    ∷ record { given = takes (first_pass_or (outcome threshold 0 0) horizontal) ∷ []; told = takes diagonal ∷ [] }
     -- K6: gradients 0,5,0,5 with values 8,100,3,100 give 6
     ∷ record { given = numbers (weighted_mean (four (pos 8) (pos 100) (pos 3) (pos 100)) (four 0 5 0 5) ∷ []); told = naturals (6 ∷ []) }
     -- K7: with −8 and −3 for 8 and 3, −5

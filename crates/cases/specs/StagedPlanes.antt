@@ -10,7 +10,7 @@ use Rattle.frame.specs.Sites.{Frame, Colour, green}
 use Rattle.method.specs.Gradients.{Mosaic, mosaic, around_in, samples_around, FourDirections, gradients_at}
 use Rattle.method.specs.Green.{Direction, horizontal, vertical, diagonal, estimate, first_pass, outcome_at, first_pass_or, green_or, less_eight, trial_difference, second_pass, second_pass_at, decided, decision_code, chroma_decision_at, decision_of, decision_at, decision_entry, decision_map}
 use Rattle.method.proofs.GreenLaws.{green_is_decided}
-use Rattle.method.specs.Planes.{weighted_mean, green_difference, straight, mean_two_off, fused, final_difference, same, corners, corner_gradients, chroma_site_difference, colour_difference, green_quarters, quarters, final_round, output, less_black, plane}
+use Rattle.method.specs.Planes.{straight_gradients, mean_under, green_difference, straight, mean_two_off, fused, final_difference, same, corners, corner_gradients, chroma_site_difference, colour_difference, green_quarters, quarters, final_round, output, less_black, plane}
 use Rattle.correspondence.specs.Comparison.{trading}
 use Rattle.correspondence.proofs.MosaicChanges.{Matches, Sides, around_changed}
 
@@ -31,30 +31,31 @@ by_direction h v d diagonal = d
 module _ (m : Mosaic) where
   -- r_k, from the gradients
   unfoldable pub trial_stage : (ℕ → ℕ → FourDirections ℕ) → Direction → ℕ → ℕ → ℤ
-  trial_stage G k i j = less_eight (estimate (first_pass_or (first_pass (G i j)) k) (samples_around m i j)) (m.sample_at i j)
+  trial_stage G k i j = less_eight (estimate (first_pass_or (first_pass m.settings.threshold (G i j)) k) (samples_around m i j)) (m.sample_at i j)
 
   -- D, from r_H, r_V and r_D
   unfoldable pub difference_stage : (Direction → ℕ → ℕ → ℤ) → ℕ → ℕ → ℤ
-  difference_stage r i j = r (second_pass (λ k. around_in m (r k) i j)) i j
+  difference_stage r i j = r (second_pass m.settings.reach (λ k. around_in m (r k) i j)) i j
 
   -- the decision's code, from the gradients and r_H, r_V and r_D
   unfoldable pub decision_stage : (ℕ → ℕ → FourDirections ℕ) → (Direction → ℕ → ℕ → ℤ) → ℕ → ℕ → ℕ
   decision_stage G r i j =
-      decision_code (decision_of (m.colour_at i j) (decided (first_pass (G i j)) (second_pass (λ k. around_in m (r k) i j))))
+      decision_code (decision_of (m.colour_at i j)
+      (decided (first_pass m.settings.threshold (G i j)) (second_pass m.settings.reach (λ k. around_in m (r k) i j))))
 
   -- the final difference, from D and the gradients
   unfoldable pub final_stage : (ℕ → ℕ → ℤ) → (ℕ → ℕ → FourDirections ℕ) → ℕ → ℕ → ℤ
-  final_stage D G i j = fused (D i j) (weighted_mean (straight 2 (around_in m D i j)) (G i j))
+  final_stage D G i j = fused m.settings.share (D i j) (mean_under straight_gradients (G i j) (straight 2 (around_in m D i j)))
 
   -- green minus c at the red and blue sites, from the final differences and the gradients
   unfoldable pub chroma_stage : Colour → (ℕ → ℕ → ℤ) → (ℕ → ℕ → FourDirections ℕ) → ℕ → ℕ → ℤ
   chroma_stage c F G i j =
-      cond (same (m.colour_at i j) c) (F i j) (weighted_mean (corners (around_in m F i j)) (corner_gradients (G i j)))
+      cond (same (m.colour_at i j) c) (F i j) (mean_under corner_gradients (G i j) (corners (around_in m F i j)))
 
   -- green minus c at every site, from these
   unfoldable pub colour_stage : (ℕ → ℕ → ℤ) → (ℕ → ℕ → FourDirections ℕ) → ℕ → ℕ → ℤ
   colour_stage C G i j =
-      cond (same (m.colour_at i j) green) (weighted_mean (straight 1 (around_in m C i j)) (G i j)) (C i j)
+      cond (same (m.colour_at i j) green) (mean_under straight_gradients (G i j) (straight 1 (around_in m C i j))) (C i j)
 
   -- the output, from the final differences and green minus c
   unfoldable pub output_stage : Colour → (ℕ → ℕ → ℤ) → (ℕ → ℕ → ℤ) → ℕ → ℕ → ℤ
@@ -185,7 +186,7 @@ raster_same H W q q' w e = tabulate_same (H * W) _ _ (λ k h. e (k / W) (k % W) 
 module _ (f : Frame) (h : 2 ≤ f.height) (w : 2 ≤ f.width) where
   sides : Sides trading (mosaic f) (mosaic f)
   unfolding mosaic
-  sides = record { height_is = refl; width_is = refl; height_low = h; width_low = w }
+  sides = record { height_is = refl; width_is = refl; settings_stay = refl; height_low = h; width_low = w }
 
   -- the planes of a frame at a black level, by stages
   pub plane_staged : (b : ℕ) (c : Colour) → plane f b c ≡ staged_plane f b c

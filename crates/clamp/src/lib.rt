@@ -2,24 +2,27 @@
 #![tactic(auto)]
 
 ghost use Rattle.std.specs.Prelude.{◌≡◌, length};
+ghost use Rattle.frame.specs.Sites.{highest_sample};
 ghost use Rattle.answers.specs.Calls.{held, clamped as clamped_plane};
 ghost use Rattle.calls.specs.WhatCallsLeave.{ClampLeaves};
 
 use answers::{Answer, Refusal};
 
+const HIGHEST_SAMPLE: i32 = 1023;
+
 // A number held to 0..1,023.
 #[tactic(auto, unfolding(answers::specs::Calls::held, frame::specs::Sites::highest_sample))]
 fn held_number(v: i32) -> i32
-    ensures { result ≡ held v }
+    ensures { result ≡ held highest_sample v }
 {
-    v.clamp(0, 1023)
+    v.clamp(0, HIGHEST_SAMPLE)
 }
 
 // Fills `clamped` with the numbers of `plane`, each held to 0..1,023.
 #[tactic(auto, unfolding(answers::specs::Calls::clamped))]
 fn hold_all(plane: &[i32], clamped: &mut [i32])
     requires { length clamped.old ≡ length plane.now }
-    ensures { clamped.new ≡ clamped_plane plane.now }
+    ensures { clamped.new ≡ clamped_plane highest_sample plane.now }
 {
     for (k, v) in plane.iter().enumerate() {
         clamped[k] = held_number(*v);

@@ -1,6 +1,6 @@
 -- Frames at a black level: a constant that keeps the samples in range, the black level taken off the samples beforehand, and the range of
 -- the numbers. Assumes nothing.
-use Rattle.std.specs.Prelude.{◌≡◌, refl, List, [], ◌∷◌, map, ℕ, zero, suc, ◌-◌, ◌<◌, ◌≤◌, ℤ, pos, negsuc, neg_ℤ, ◌+ℤ◌, ◌-ℤ◌, length, get_or, ◌≤ℤ◌}
+use Rattle.std.specs.Prelude.{◌≡◌, refl, List, [], ◌∷◌, map, ℕ, zero, suc, ◌*◌, ◌-◌, ◌<◌, ◌≤◌, ℤ, pos, neg_ℤ, ◌+ℤ◌, ◌-ℤ◌, length, get_or, ◌≤ℤ◌}
 use Rattle.std.proofs.Common.{sym, ◌∙◌, ap, ap₂, arith}
 use Rattle.std.proofs.Math.IntN.{nat_abs}
 use Rattle.std.proofs.lemmas.List.{length-map}
@@ -13,6 +13,8 @@ use Rattle.method.specs.Planes.{output, less_black, number_at, entry_at}
 use Rattle.method.specs.Gradients.{mosaic}
 use Rattle.correspondence.specs.Comparison.{brightened, KeepsRange, SumsAreSamples, taken_off, NoneBelow}
 use Rattle.method.proofs.PlaneLaws.{number_is_output}
+use Rattle.method.proofs.Range.{output_ranged}
+use Rattle.method.proofs.Sizes.{samples_ranged, usual_allowed}
 use Rattle.correspondence.proofs.FrameBrightness.{brightened_admitted, number_brightened, entry_brightened}
 
 -- ---- brightened frames
@@ -40,12 +42,7 @@ less_each b (z ∷ l) each = ap₂ ◌∷◌ (less b z (each zero (omega arith))
 -- it is the constant −b
 pub taken_off_is : (b : ℕ) (f : Frame) → NoneBelow b f → taken_off b f ≡ brightened (neg_ℤ (pos b)) f
 unfolding taken_off brightened
-taken_off_is b f none t = record {
-  width = f.width;
-  height = f.height;
-  phase = f.phase;
-  samples = less_each b f.samples none t;
-}
+taken_off_is b f none t = record f { samples = less_each b f.samples none t }
 
 module _ (b : ℕ) (f : Frame) (a : Admitted f) (none : NoneBelow b f) where
   sample_less : (z : ℕ) → b ≤ z → z ≤ highest_sample
@@ -76,6 +73,17 @@ module _ (b : ℕ) (f : Frame) (a : Admitted f) (none : NoneBelow b f) where
 
 -- ---- the range
 
-pub range_less_black : (b : ℕ) (v : ℤ) → Ranged 2046 3069 v → ((negsuc 2045 -ℤ pos b) ≤ℤ less_black b v) × (less_black b v ≤ℤ (pos 3069 -ℤ pos b))
+range_less_black : (T b : ℕ) (v : ℤ) → Ranged (2 * T) (3 * T) v
+    → ((neg_ℤ (pos (2 * T)) -ℤ pos b) ≤ℤ less_black b v) × (less_black b v ≤ℤ (pos (3 * T) -ℤ pos b))
 unfolding less_black
-range_less_black b v = rw (as_difference v) (simp to_naturals (omega arith))
+range_less_black T b v = rw (as_difference v) (simp to_naturals (omega arith))
+
+-- the numbers of a frame whose samples are from 0 to the highest
+pub number_ranged : {highest : ℕ} (f : Frame) → 2 ≤ f.height → 2 ≤ f.width → ((k : ℕ) → get_or f.samples k 0 ≤ highest)
+    → (b : ℕ) (c : Colour) (i j : ℕ) → i < f.height → j < f.width
+    → ((neg_ℤ (pos (2 * highest)) -ℤ pos b) ≤ℤ number_at f b c i j) × (number_at f b c i j ≤ℤ (pos (3 * highest) -ℤ pos b))
+unfolding mosaic
+number_ranged {highest} f tall wide ranged b c i j hi hj =
+    rw (number_is_output f b c i j hi hj)
+    (range_less_black highest b _
+    (output_ranged highest (mosaic f) (samples_ranged f tall wide ranged) usual_allowed c i j hi hj))

@@ -9,11 +9,13 @@ use Rattle.toolkit.specs.Differences.{as_difference}
 use Rattle.toolkit.specs.Orders.{to_naturals}
 use Rattle.toolkit.specs.Rounding.{round_shift}
 use Rattle.frame.specs.Sites.{Colour, green, Around, around}
+use Rattle.method.specs.Settings.{Settings}
 use Rattle.method.specs.Gradients.{Mosaic, around_in, samples_around, exchanged, apart, taps, six_tap, six_tap_pair, eastbound, east_gradient, west_gradient, gradients, gradients_at}
 use Rattle.method.specs.Green.{Direction, horizontal, vertical, diagonal, line_estimate, horizontal_estimate, estimate, Outcome, first_pass, outcome_at, first_pass_or, green_or, less_eight, trial_difference, second_pass, second_pass_at, green_at, decision_code, chroma_decision_at, decision_at, decision_entry}
-use Rattle.method.specs.Planes.{green_difference, mean_two_off, final_difference, same, chroma_site_difference, colour_difference, green_quarters, quarters, final_round, output}
+use Rattle.method.specs.Planes.{straight_gradients, mean_under, straight, green_difference, mean_two_off, final_difference, same, chroma_site_difference, colour_difference, green_quarters, quarters, final_round, output}
 use Rattle.method.proofs.ColourLaws.{directions_path}
 use Rattle.method.proofs.GreenLaws.{diagonal_is_whole, green_is_decided}
+use Rattle.method.proofs.PlaneLaws.{same_fused}
 use Rattle.correspondence.specs.Comparison.{trading}
 use Rattle.correspondence.proofs.MosaicChanges.{Matches, Sides, around_changed}
 
@@ -118,7 +120,7 @@ module _ (k : ℤ) (m m' : Mosaic) (b : Brighter k m m') where
 
   outcome_same : Matches trading m (outcome_at m) (outcome_at m')
   unfolding outcome_at
-  outcome_same i j hi hj = ap first_pass (gradients_same i j hi hj)
+  outcome_same i j hi hj = ap₂ (λ (s : Settings). first_pass s.threshold) b.sides.settings_stay (gradients_same i j hi hj)
 
   green_or_brighter : (d : Direction) → Matches trading m (λ i j. green_or m d i j +ℤ pos 8 *ℤ k) (green_or m' d)
   unfolding green_or
@@ -133,7 +135,8 @@ module _ (k : ℤ) (m m' : Mosaic) (b : Brighter k m m') where
   second_pass_same : Matches trading m (second_pass_at m) (second_pass_at m')
   unfolding second_pass_at
   second_pass_same i j hi hj =
-      ap second_pass (fun_ext λ d. around_same (trial_difference m d) (trial_difference m' d) (trial_same d) i j hi hj)
+      ap₂ (λ (s : Settings). second_pass s.reach) b.sides.settings_stay
+      (fun_ext λ d. around_same (trial_difference m d) (trial_difference m' d) (trial_same d) i j hi hj)
 
   decision_same : Matches trading m (decision_at m) (decision_at m')
   unfolding decision_at chroma_decision_at
@@ -156,11 +159,9 @@ module _ (k : ℤ) (m m' : Mosaic) (b : Brighter k m m') where
   final_difference_same : Matches trading m (final_difference m) (final_difference m')
   unfolding final_difference mean_two_off
   final_difference_same i j hi hj =
-      rw (
-        green_difference_same i j hi hj,
-        around_same (green_difference m) (green_difference m') green_difference_same i j hi hj,
-        gradients_same i j hi hj,
-      )
+      same_fused (ap (λ (s : Settings). s.share) b.sides.settings_stay) (green_difference_same i j hi hj)
+      (ap₂ (mean_under straight_gradients) (gradients_same i j hi hj)
+      (ap (straight 2) (around_same (green_difference m) (green_difference m') green_difference_same i j hi hj)))
 
   chroma_site_same : (c : Colour) → Matches trading m (chroma_site_difference m c) (chroma_site_difference m' c)
   unfolding chroma_site_difference

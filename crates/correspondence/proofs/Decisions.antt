@@ -1,10 +1,8 @@
 -- The decision at one site: what a change of the frame does to it and to its code, which codes there are, and that 0 is the code of the
 -- green sites alone. Assumes nothing.
-use Rattle.std.specs.Prelude.{◌≡◌, refl, ◌↔◌, ℕ, ◌<◌, ◌≤◌, eqb}
-use Rattle.std.proofs.Common.{arith}
+use Rattle.std.specs.Prelude.{◌≡◌, refl, ℕ, eqb}
 use Rattle.toolkit.specs.Tests.{by_test, eqb_eq}
-use Rattle.frame.specs.Sites.{Colour, red, green, blue}
-use Rattle.method.specs.Green.{Direction, horizontal, vertical, diagonal, Outcome, equal, strong_across, strong_down, weak, Decision, measured, weak_across, weak_down, weak_to_mean, decision_code, decided, decision_of}
+use Rattle.method.specs.Green.{Direction, horizontal, vertical, diagonal, Outcome, equal, strong_across, strong_down, weak, Decision, measured, weak_across, weak_down, weak_to_mean, decision_code, decided}
 use Rattle.correspondence.specs.Comparison.{Change, left_right, top_bottom, transposing, trading, exchanged_code}
 use Rattle.correspondence.proofs.SiteChanges.{act_direction, act_outcome}
 

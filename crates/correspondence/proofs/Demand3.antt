@@ -16,12 +16,10 @@ use Rattle.correspondence.specs.Comparison.{Accepted, Change, changed_by, row_af
 use Rattle.method.proofs.ColourLaws.{same_self}
 use Rattle.method.proofs.DecisionLaws.{code_most, zero_at_green}
 use Rattle.correspondence.proofs.Acceptance.{accepted_admitted, admitted_accepted}
-use Rattle.method.proofs.PlaneLaws.{number_is_output, entry_is_code}
+use Rattle.method.proofs.PlaneLaws.{entry_is_code}
 use Rattle.correspondence.proofs.ChangeLists.{green_keeps_name, list_admitted, list_inside, list_colour, list_number, list_entry}
 use Rattle.correspondence.proofs.FrameBrightness.{sums_are_samples, brightened_admitted, number_brightened, entry_brightened}
-use Rattle.correspondence.proofs.BlackLevel.{sums_keep_range, range_less_black, taken_off_admitted, number_taken_off, entry_taken_off}
-use Rattle.method.proofs.Range.{output_ranged}
-use Rattle.method.proofs.Sizes.{samples_ranged}
+use Rattle.correspondence.proofs.BlackLevel.{sums_keep_range, number_ranged, taken_off_admitted, number_taken_off, entry_taken_off}
 
 -- ---- "Take any accepted frame and any list of these four, in any order and number"
 
@@ -97,11 +95,10 @@ measured_sample f b accepted i j hi hj = rw (getD_raster f.height f.width _ i j 
 -- "and all three numbers lie in −2,046 to 3,069."; document 02, A2, "the range of outputs moves down by b"
 pub every_number_in_range : (f : Frame) (b : ℕ) → Accepted f b → (c : Colour) (i j : ℕ) → i < f.height → j < f.width
     → ((negsuc 2045 -ℤ pos b) ≤ℤ number_at f b c i j) × (number_at f b c i j ≤ℤ (pos 3069 -ℤ pos b))
-unfolding mosaic highest_sample
-every_number_in_range f b accepted c i j hi hj =
+unfolding highest_sample
+every_number_in_range f b accepted =
     let a = (accepted_admitted f b accepted).admitted in
-    let s = samples_ranged f (side_low a.height_allowed) (side_low a.width_allowed) (sample_high f a) in
-    rw (number_is_output f b c i j hi hj) (range_less_black b _ (output_ranged 1023 (mosaic f) s c i j hi hj))
+    number_ranged f (side_low a.height_allowed) (side_low a.width_allowed) (sample_high f a) b
 
 -- ---- the black level: document 02, A2
 

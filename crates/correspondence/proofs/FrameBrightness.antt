@@ -61,6 +61,7 @@ module _ (k : ℤ) (f : Frame) (a : Admitted f) (keeps : KeepsRange k f) where
     sides = record {
       height_is = refl;
       width_is = refl;
+      settings_stay = refl;
       height_low = side_low a.height_allowed;
       width_low = side_low a.width_allowed;
     };

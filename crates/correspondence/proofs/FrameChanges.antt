@@ -15,8 +15,8 @@ use Rattle.frame.proofs.Colours.{by_phase, colour_mirrored, colour_flipped, colo
 use Rattle.answers.specs.Calls.{most_under, Admitted, AdmittedAt}
 use Rattle.frame.proofs.Sites.{side_low}
 use Rattle.method.specs.Gradients.{mosaic}
-use Rattle.method.specs.Green.{decision_entry, decision_map}
-use Rattle.method.specs.Planes.{output, less_black, plane, number_at, entry_at}
+use Rattle.method.specs.Green.{decision_entry}
+use Rattle.method.specs.Planes.{output, less_black, number_at, entry_at}
 use Rattle.method.proofs.PlaneLaws.{number_is_output, entry_is_code}
 use Rattle.correspondence.specs.Comparison.{Change, left_right, top_bottom, transposing, trading, matching_row, matching_column, changed_height, changed_width, changed_phase, changed_samples, changed}
 use Rattle.correspondence.proofs.Decisions.{act_code}
@@ -117,6 +117,7 @@ module _ (f : Frame) (a : Admitted f) where
     sides = record {
       height_is = refl;
       width_is = refl;
+      settings_stay = refl;
       height_low = side_low a.height_allowed;
       width_low = side_low a.width_allowed;
     };

@@ -1,13 +1,13 @@
 -- A weighted mean is the same when its four values and gradients change places together. Assumes nothing.
 use Rattle.std.specs.Prelude.{◌≡◌, refl, ℕ, ℤ}
-use Rattle.std.proofs.Common.{◌∙◌, ap₂, arith}
+use Rattle.std.proofs.Common.{◌∙◌, ap, ap₂, arith}
 use Rattle.toolkit.specs.Differences.{as_difference}
 use Rattle.toolkit.specs.Orders.{to_naturals}
 use Rattle.method.specs.Gradients.{FourDirections}
-use Rattle.method.specs.Planes.{inner_round, count_zeros, weight, weights, sum_of_four, weighted_sum, total, weighted_mean}
+use Rattle.method.specs.Planes.{inner_round, count_zeros, weight, weights, sum_of_four, weighted_sum, total, weighted_mean, straight_gradients, corner_gradients, mean_under}
 use Rattle.method.proofs.ColourLaws.{directions_path}
 use Rattle.correspondence.specs.Comparison.{Change, left_right, top_bottom, transposing, trading}
-use Rattle.correspondence.proofs.SiteChanges.{act_directions, act_corners}
+use Rattle.correspondence.proofs.SiteChanges.{act_directions, act_corners, weighing_changed, corner_gradients_changed}
 
 -- ---- two changes of places make all others
 
@@ -62,14 +62,14 @@ mean_last v d = mean_pairs (swapped (rotated (rotated v))) (swapped (rotated (ro
 
 -- ---- the changes of a frame
 
-pub mean_directions : (g : Change) (v : FourDirections ℤ) (d : FourDirections ℕ)
+mean_directions : (g : Change) (v : FourDirections ℤ) (d : FourDirections ℕ)
     → weighted_mean (act_directions g v) (act_directions g d) ≡ weighted_mean v d
 mean_directions left_right v d = mean_swapped v d
 mean_directions top_bottom v d = mean_last v d
 mean_directions transposing v d = mean_pairs v d
 mean_directions trading v d = refl
 
-pub mean_corners : (g : Change) (v : FourDirections ℤ) (d : FourDirections ℕ)
+mean_corners : (g : Change) (v : FourDirections ℤ) (d : FourDirections ℕ)
     → weighted_mean (act_corners g v) (act_corners g d) ≡ weighted_mean v d
 mean_corners left_right v d = mean_swapped (act_directions top_bottom v) (act_directions top_bottom d) ∙ mean_last v d
 mean_corners top_bottom v d = mean_pairs v d
@@ -78,3 +78,16 @@ mean_corners transposing v d =
     ∙ (mean_swapped (rotated (rotated (rotated v))) (rotated (rotated (rotated d)))
     ∙ (mean_rotated (rotated (rotated v)) (rotated (rotated d)) ∙ mean_pairs v d))
 mean_corners trading v d = refl
+
+-- ---- the means of what stands around a site
+
+pub straight_mean_changed : (g : Change) (d : FourDirections ℕ) (v : FourDirections ℤ)
+    → mean_under straight_gradients (act_directions g d) (act_directions g v) ≡ mean_under straight_gradients d v
+unfolding mean_under
+straight_mean_changed g d v = ap (weighted_mean (act_directions g v)) (weighing_changed g d) ∙ mean_directions g v _
+
+pub corner_mean_changed : (g : Change) (d : FourDirections ℕ) (v : FourDirections ℤ)
+    → mean_under corner_gradients (act_directions g d) (act_corners g v) ≡ mean_under corner_gradients d v
+unfolding mean_under
+corner_mean_changed g d v =
+    ap (weighted_mean (act_corners g v)) (ap corner_gradients (weighing_changed g d) ∙ corner_gradients_changed g _) ∙ mean_corners g v _

@@ -7,14 +7,16 @@ use Rattle.std.proofs.Math.Path.{ap, ap₂, fun_ext}
 use Rattle.frame.specs.Sites.{Colour, red, green, blue, around}
 use Rattle.frame.proofs.Reflection.{reflect_lt, reflect_mirror}
 use Rattle.frame.specs.Colours.{trade}
+use Rattle.method.specs.Settings.{Settings}
 use Rattle.method.specs.Gradients.{Mosaic, around_in, samples_around, gradients, gradients_at}
 use Rattle.method.specs.Green.{Direction, Outcome, estimate, first_pass, outcome_at, first_pass_or, green_or, less_eight, trial_difference, second_pass, second_pass_at, green_at, Decision, decision_code, chroma_decision_at, decision_of, decision_at, decision_entry}
 use Rattle.method.proofs.GreenLaws.{green_is_decided}
-use Rattle.method.specs.Planes.{weighted_mean, green_difference, straight, mean_two_off, fused, final_difference, same, corners, corner_gradients, chroma_site_difference, colour_difference, green_quarters, quarters, output}
+use Rattle.method.proofs.PlaneLaws.{same_fused}
+use Rattle.method.specs.Planes.{mean_under, straight_gradients, corner_gradients, green_difference, straight, mean_two_off, final_difference, same, corners, chroma_site_difference, colour_difference, green_quarters, quarters, output}
 use Rattle.correspondence.specs.Comparison.{Change, left_right, top_bottom, transposing, trading, matching_row, matching_column, changed_height, changed_width}
-use Rattle.correspondence.proofs.SiteChanges.{act, act_directions, act_direction, act_outcome, gradients_changed, estimate_changed, first_pass_changed, first_pass_or_changed, act_direction_twice, second_pass_changed, straight_changed, corners_changed, corner_gradients_changed}
+use Rattle.correspondence.proofs.SiteChanges.{act, act_directions, act_direction, act_outcome, gradients_changed, estimate_changed, first_pass_changed, first_pass_or_changed, act_direction_twice, second_pass_changed, straight_changed, corners_changed}
 use Rattle.correspondence.proofs.Decisions.{act_decision, act_code, decided_changed, code_changed}
-use Rattle.correspondence.proofs.MeanChanges.{mean_directions, mean_corners}
+use Rattle.correspondence.proofs.MeanChanges.{straight_mean_changed, corner_mean_changed}
 
 -- ---- two mosaics that correspond
 
@@ -31,10 +33,11 @@ Matches g m q q' =
     (i j : ℕ) → i < m.height → j < m.width
     → q' (matching_row g m.height m.width i j) (matching_column g m.height m.width i j) ≡ q i j
 
--- m' has the sides of m after the change
+-- m' has the sides of m after the change, and the settings of m
 pub record Sides (g : Change) (m m' : Mosaic) : Type 0 where
   pub height_is : m'.height ≡ changed_height g m.height m.width
   pub width_is : m'.width ≡ changed_width g m.height m.width
+  pub settings_stay : m'.settings ≡ m.settings
   pub height_low : 2 ≤ m.height
   pub width_low : 2 ≤ m.width
 
@@ -110,7 +113,8 @@ module _ (g : Change) (m m' : Mosaic) (t : Changed g m m') where
 
   outcome_both : Matches g m (λ i j. act_outcome g (outcome_at m i j)) (outcome_at m')
   unfolding outcome_at
-  outcome_both i j hi hj = ap first_pass (gradients_both i j hi hj) ∙ first_pass_changed g _
+  outcome_both i j hi hj =
+      ap₂ (λ (s : Settings). first_pass s.threshold) t.sides.settings_stay (gradients_both i j hi hj) ∙ first_pass_changed _ g _
 
   green_or_both : (k : Direction) → Matches g m (green_or m k) (green_or m' (act_direction g k))
   unfolding green_or
@@ -130,8 +134,9 @@ module _ (g : Change) (m m' : Mosaic) (t : Changed g m m') where
   second_pass_both : Matches g m (λ i j. act_direction g (second_pass_at m i j)) (second_pass_at m')
   unfolding second_pass_at
   second_pass_both i j hi hj =
-      ap second_pass (fun_ext λ k. around_both (trial_difference m (act_direction g k)) (trial_difference m' k) (trial_from k) i j hi hj)
-      ∙ second_pass_changed g (λ k. around_in m (trial_difference m k) i j)
+      ap₂ (λ (s : Settings). second_pass s.reach) t.sides.settings_stay
+      (fun_ext λ k. around_both (trial_difference m (act_direction g k)) (trial_difference m' k) (trial_from k) i j hi hj)
+      ∙ second_pass_changed _ g (λ k. around_in m (trial_difference m k) i j)
 
   decision_both : Matches g m (λ i j. act_decision g (decision_at m i j)) (decision_at m')
   unfolding decision_at chroma_decision_at
@@ -158,24 +163,23 @@ module _ (g : Change) (m m' : Mosaic) (t : Changed g m m') where
   green_difference_both i j hi hj = ap₂ less_eight (green_both i j hi hj) (t.samples i j hi hj)
 
   straight_mean_both : (k : ℕ) (q q' : ℕ → ℕ → ℤ) → Matches g m q q'
-      → Matches g m (λ i j. weighted_mean (straight k (around_in m q i j)) (gradients_at m i j))
-      (λ i j. weighted_mean (straight k (around_in m' q' i j)) (gradients_at m' i j))
+      → Matches g m (λ i j. mean_under straight_gradients (gradients_at m i j) (straight k (around_in m q i j)))
+      (λ i j. mean_under straight_gradients (gradients_at m' i j) (straight k (around_in m' q' i j)))
   straight_mean_both k q q' e i j hi hj =
-      ap₂ weighted_mean (ap (straight k) (around_both q q' e i j hi hj) ∙ straight_changed k g _) (gradients_both i j hi hj)
-      ∙ mean_directions g _ _
+      ap₂ (mean_under straight_gradients) (gradients_both i j hi hj) (ap (straight k) (around_both q q' e i j hi hj) ∙ straight_changed k g _)
+      ∙ straight_mean_changed g _ _
 
   corner_mean_both : (q q' : ℕ → ℕ → ℤ) → Matches g m q q'
-      → Matches g m (λ i j. weighted_mean (corners (around_in m q i j)) (corner_gradients (gradients_at m i j)))
-      (λ i j. weighted_mean (corners (around_in m' q' i j)) (corner_gradients (gradients_at m' i j)))
+      → Matches g m (λ i j. mean_under corner_gradients (gradients_at m i j) (corners (around_in m q i j)))
+      (λ i j. mean_under corner_gradients (gradients_at m' i j) (corners (around_in m' q' i j)))
   corner_mean_both q q' e i j hi hj =
-      ap₂ weighted_mean (ap corners (around_both q q' e i j hi hj) ∙ corners_changed g _)
-      (ap corner_gradients (gradients_both i j hi hj) ∙ corner_gradients_changed g _)
-      ∙ mean_corners g _ _
+      ap₂ (mean_under corner_gradients) (gradients_both i j hi hj) (ap corners (around_both q q' e i j hi hj) ∙ corners_changed g _)
+      ∙ corner_mean_changed g _ _
 
   final_difference_both : Matches g m (final_difference m) (final_difference m')
   unfolding final_difference mean_two_off
   final_difference_both i j hi hj =
-      ap₂ fused (green_difference_both i j hi hj)
+      same_fused (ap (λ (s : Settings). s.share) t.sides.settings_stay) (green_difference_both i j hi hj)
       (straight_mean_both 2 (green_difference m) (green_difference m') green_difference_both i j hi hj)
 
   chroma_site_both : (c : Colour) → Matches g m (chroma_site_difference m c) (chroma_site_difference m' (act_colour g c))

@@ -9,8 +9,8 @@ use Rattle.toolkit.specs.Differences.{as_difference}
 use Rattle.toolkit.specs.Orders.{to_naturals}
 use Rattle.frame.specs.Sites.{Around}
 use Rattle.method.specs.Gradients.{exchanged, apart, taps, six_tap, six_tap_pair, eastbound, east_gradient, west_gradient, FourDirections, gradients}
-use Rattle.method.specs.Green.{Direction, horizontal, vertical, diagonal, line_estimate, horizontal_estimate, half, estimate, threshold, Outcome, equal, strong_across, strong_down, weak, outcome, first_pass, first_pass_or, reach, sum_about, column_sum, horizontal_sum, vertical_sum, diagonal_sum, least_sum, second_pass}
-use Rattle.method.specs.Planes.{straight, diagonally, corners, corner_gradients}
+use Rattle.method.specs.Green.{Direction, horizontal, vertical, diagonal, line_estimate, horizontal_estimate, half, estimate, Outcome, equal, strong_across, strong_down, weak, outcome, first_pass, first_pass_or, sum_about, column_sum, horizontal_sum, vertical_sum, diagonal_sum, least_sum, second_pass}
+use Rattle.method.specs.Planes.{straight, diagonally, corners, weighing, corner_gradients}
 use Rattle.method.proofs.ColourLaws.{directions_path}
 use Rattle.correspondence.specs.Comparison.{Change, left_right, top_bottom, transposing, trading}
 
@@ -143,9 +143,9 @@ estimate_changed trading k Z = refl
 
 -- ---- the first pass
 
-outcome_swapped : (h v : ℕ) → outcome v h ≡ swap_outcome (outcome h v)
+outcome_swapped : (threshold h v : ℕ) → outcome threshold v h ≡ swap_outcome (outcome threshold h v)
 unfolding outcome
-outcome_swapped h v = rw (min_comm v h, max_comm v h, eqb_comm v h) (by_test (eqb h v) _ (λ x. rw x)
+outcome_swapped threshold h v = rw (min_comm v h, max_comm v h, eqb_comm v h) (by_test (eqb h v) _ (λ x. rw x)
     (λ x. by_test (ltb (threshold * min h v) (10 * max h v)) _
     (λ y. by_test (ltb h v) _
     (λ z. let q : h < v = ltb_lt _ _ z in rw (x, y, z, ltb_no {m = v} {n = h} (omega arith)))
@@ -158,12 +158,13 @@ outcome_swapped h v = rw (min_comm v h, max_comm v h, eqb_comm v h) (by_test (eq
         let n : ¬ (h ≡ v) = eqb_ne x in
         omega arith
 
-pub first_pass_changed : (g : Change) (d : FourDirections ℕ) → first_pass (act_directions g d) ≡ act_outcome g (first_pass d)
+pub first_pass_changed : (threshold : ℕ) (g : Change) (d : FourDirections ℕ)
+    → first_pass threshold (act_directions g d) ≡ act_outcome g (first_pass threshold d)
 unfolding first_pass
-first_pass_changed left_right d = ap (λ (h : ℕ). outcome h (d.south + d.north)) (omega arith)
-first_pass_changed top_bottom d = ap (λ (v : ℕ). outcome (d.east + d.west) v) (omega arith)
-first_pass_changed transposing d = outcome_swapped (d.east + d.west) (d.south + d.north)
-first_pass_changed trading d = refl
+first_pass_changed threshold left_right d = ap (λ (h : ℕ). outcome threshold h (d.south + d.north)) (omega arith)
+first_pass_changed threshold top_bottom d = ap (λ (v : ℕ). outcome threshold (d.east + d.west) v) (omega arith)
+first_pass_changed threshold transposing d = outcome_swapped threshold (d.east + d.west) (d.south + d.north)
+first_pass_changed threshold trading d = refl
 
 pub first_pass_or_changed : (g : Change) (o : Outcome) (k : Direction)
     → first_pass_or (act_outcome g o) (act_direction g k) ≡ act_direction g (first_pass_or o k)
@@ -194,13 +195,13 @@ sum_backwards (suc n) f f' e = omega (arith, e (negsuc n), e (pos (suc n)), sum_
 double_neg : (t : ℤ) → neg_ℤ (pos 2 *ℤ t) ≡ pos 2 *ℤ neg_ℤ t
 double_neg t = rw (as_difference t) (simp to_naturals (omega arith))
 
-column_sum_mirrored : (r : Around ℤ) → column_sum (act left_right r) ≡ column_sum r
+column_sum_mirrored : (reach : ℕ) (r : Around ℤ) → column_sum reach (act left_right r) ≡ column_sum reach r
 unfolding column_sum
-column_sum_mirrored r = sum_backwards reach _ _ (λ t. ap (λ (c : ℤ). apart (r (pos 0) (pos 0)) (r (pos 0) c)) (double_neg t))
+column_sum_mirrored reach r = sum_backwards reach _ _ (λ t. ap (λ (c : ℤ). apart (r (pos 0) (pos 0)) (r (pos 0) c)) (double_neg t))
 
-column_sum_flipped : (r : Around ℤ) → column_sum (act top_bottom r) ≡ column_sum r
+column_sum_flipped : (reach : ℕ) (r : Around ℤ) → column_sum reach (act top_bottom r) ≡ column_sum reach r
 unfolding column_sum
-column_sum_flipped r = refl
+column_sum_flipped reach r = refl
 
 least_sum_swapped : (FH FV FD : ℕ) → least_sum FV FH FD ≡ swap (least_sum FH FV FD)
 unfolding least_sum
@@ -210,27 +211,27 @@ least_sum_swapped FH FV FD = by_test (ltb FH FV) _
     rw (x, ltb_no {m = FV} {n = FH} (omega arith)) (by_test (ltb FH FD) _ (λ y. rw y) (λ y. rw y)))
     (λ x. rw x (by_test (ltb FV FH) _ (λ y. rw y (by_test (ltb FV FD) _ (λ z. rw z) (λ z. rw z))) (λ y. rw y)))
 
-pub second_pass_changed : (g : Change) (r : Direction → Around ℤ)
-    → second_pass (λ k. act g (r (act_direction g k))) ≡ act_direction g (second_pass r)
+pub second_pass_changed : (reach : ℕ) (g : Change) (r : Direction → Around ℤ)
+    → second_pass reach (λ k. act g (r (act_direction g k))) ≡ act_direction g (second_pass reach r)
 unfolding second_pass horizontal_sum vertical_sum diagonal_sum
-second_pass_changed left_right r =
+second_pass_changed reach left_right r =
     rw (
-      column_sum_mirrored (r horizontal),
-      column_sum_flipped (exchanged (r vertical)),
-      column_sum_mirrored (r diagonal),
-      column_sum_flipped (exchanged (r diagonal)),
+      column_sum_mirrored reach (r horizontal),
+      column_sum_flipped reach (exchanged (r vertical)),
+      column_sum_mirrored reach (r diagonal),
+      column_sum_flipped reach (exchanged (r diagonal)),
     )
-second_pass_changed top_bottom r =
+second_pass_changed reach top_bottom r =
     rw (
-      column_sum_flipped (r horizontal),
-      column_sum_mirrored (exchanged (r vertical)),
-      column_sum_flipped (r diagonal),
-      column_sum_mirrored (exchanged (r diagonal)),
+      column_sum_flipped reach (r horizontal),
+      column_sum_mirrored reach (exchanged (r vertical)),
+      column_sum_flipped reach (r diagonal),
+      column_sum_mirrored reach (exchanged (r diagonal)),
     )
-second_pass_changed transposing r =
-    ap (λ (s : ℕ). least_sum (2 * column_sum (exchanged (r vertical))) (2 * column_sum (r horizontal)) s) (omega arith)
+second_pass_changed reach transposing r =
+    ap (λ (s : ℕ). least_sum (2 * column_sum reach (exchanged (r vertical))) (2 * column_sum reach (r horizontal)) s) (omega arith)
     ∙ least_sum_swapped _ _ _
-second_pass_changed trading r = refl
+second_pass_changed reach trading r = refl
 
 -- ---- neighbours
 
@@ -247,6 +248,10 @@ corners_changed left_right N = refl
 corners_changed top_bottom N = refl
 corners_changed transposing N = refl
 corners_changed trading N = refl
+
+pub weighing_changed : (g : Change) (d : FourDirections ℕ) → weighing (act_directions g d) ≡ act_directions g (weighing d)
+unfolding weighing
+weighing_changed g d = refl
 
 pub corner_gradients_changed : (g : Change) (d : FourDirections ℕ) → corner_gradients (act_directions g d) ≡ act_corners g (corner_gradients d)
 unfolding corner_gradients

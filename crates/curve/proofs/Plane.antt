@@ -49,7 +49,7 @@ none_found plane e = found_from 0 plane ∙ ap by_position e
 -- ---- what clamp leaves
 
 -- each number is from 0 to 1,023
-pub held_clamped : (v : ℤ) → Clamped (held v)
+pub held_clamped : (v : ℤ) → Clamped (held highest_sample v)
 unfolding held highest_sample
 held_clamped v = by_test (lt_z v (pos 0)) _
     (λ t. rw t (≤ℤ_refl (pos 0), record { le = holds (leb_yes {m = 0} {n = 1023} (omega arith)) }))
@@ -58,9 +58,9 @@ held_clamped v = by_test (lt_z v (pos 0)) _
     (λ u. rw (t, u) (lt_z_no (rw t tt), lt_z_no (rw u tt))))
 
 -- so curve refuses none
-pub clamped_passes : (plane : List ℤ) → unclamped_answer (clamped plane) ≡ no_refusal
+pub clamped_passes : (plane : List ℤ) → unclamped_answer (clamped highest_sample plane) ≡ no_refusal
 unfolding clamped
-clamped_passes plane = (thirteen_in_figures (clamped plane)).1
+clamped_passes plane = (thirteen_in_figures (clamped highest_sample plane)).1
     (λ n h.
-    let inside : n < length plane = omega (arith, length-map plane held) in
-    rw (get_or-map held plane n (pos 0) (pos 0) inside) (held_clamped _))
+    let inside : n < length plane = omega (arith, length-map plane (held highest_sample)) in
+    rw (get_or-map (held highest_sample) plane n (pos 0) (pos 0) inside) (held_clamped _))

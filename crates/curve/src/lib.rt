@@ -21,7 +21,7 @@ fn entry(v: usize) -> u16
 }
 
 // A number from 0 to 1,023 through the curve.
-#[tactic(auto, unfolding(tone_curve::specs::ToneCurve::curved_number))]
+#[tactic(auto, unfolding(tone_curve::specs::ToneCurve::curved_number, frame::specs::Sites::highest_sample))]
 fn curved_number(v: i32) -> i32
     requires { Clamped v }
     ensures { result ≡ curved_number v }
@@ -29,12 +29,14 @@ fn curved_number(v: i32) -> i32
     i32::from(entry(v as usize))
 }
 
+const HIGHEST_SAMPLE: i32 = 1023;
+
 // Whether a number is below 0 or above 1,023.
 #[tactic(auto, unfolding(answers::specs::Calls::unclamped, frame::specs::Sites::highest_sample))]
 fn is_unclamped(v: i32) -> bool
     ensures { result ≡ unclamped v }
 {
-    v < 0 || 1023 < v
+    v < 0 || HIGHEST_SAMPLE < v
 }
 
 // Whether every number is from 0 to 1,023. All are tested, so that none needs a branch.

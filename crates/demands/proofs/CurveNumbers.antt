@@ -5,6 +5,7 @@ use Rattle.std.specs.Int.Signed.{lt_z, lt_z_yes}
 use Rattle.toolkit.specs.Tests.{is_true, holds, leb_yes, eqb_eq, and_true}
 use Rattle.toolkit.specs.Differences.{as_difference}
 use Rattle.toolkit.specs.Orders.{to_naturals}
+use Rattle.frame.specs.Sites.{highest_sample}
 use Rattle.answers.specs.Calls.{Clamped}
 use Rattle.tone_curve.specs.ToneCurve.{satisfies, may_be_entry, curved_number}
 use Rattle.tone_curve.proofs.OneCurve.{entry_follows, the_entry, never_below_one_before, never_below_its_number, entry_at_most}
@@ -41,6 +42,7 @@ rule_in_figures (negsuc v) t h = absurd h.le
 -- ---- the curve at a number from 0 to 1,023
 
 size_most : (v : ℤ) → Clamped v → nat_abs v ≤ 1023
+unfolding highest_sample
 size_most (pos n) c = leb→le n 1023 c.1.le
 size_most (negsuc n) c = absurd c.0.le
 
@@ -58,7 +60,7 @@ curved_not_below (pos n) c = less_or_equal (never_below_its_number n (size_most 
 curved_not_below (negsuc n) c = absurd c.0.le
 
 pub curved_clamped : (v : ℤ) → Clamped v → Clamped (curved_number v)
-unfolding curved_number
+unfolding curved_number highest_sample
 curved_clamped v c = (less_or_equal (omega arith), less_or_equal (entry_at_most (nat_abs v) (size_most v c)))
 
 pub curved_ordered : (v w : ℤ) → Clamped v → Clamped w → v ≤ℤ w → curved_number v ≤ℤ curved_number w

@@ -5,7 +5,7 @@ use Rattle.std.proofs.Common.{sym, ◌∙◌, ap, arith}
 use Rattle.std.proofs.Math.Arith.{digits_lt}
 use Rattle.std.proofs.lemmas.List.{get_or-map, length-map}
 use Rattle.toolkit.specs.Tests.{eqb_yes}
-use Rattle.frame.specs.Sites.{Frame, Colour, red, green, blue}
+use Rattle.frame.specs.Sites.{Frame, highest_sample, Colour, red, green, blue}
 use Rattle.answers.specs.Calls.{in_order, success, returned, clamp_answer, held, clamped, unclamped_answer, Answer, Clamped}
 use Rattle.answers.proofs.Admission.{returned_done}
 use Rattle.answers.proofs.Clamped.{thirteen_in_figures, equal_lengths, curve_done}
@@ -95,16 +95,16 @@ module _ (numbers before : List ℤ) (answer : Answer) (left : List ℤ) where
   equal_lengths_clamped call same = rw (call.answered, eqb_yes {m = length before} {n = length numbers} same)
 
 module _ {numbers : List ℤ} (clamping : PlaneClamped numbers) where
-  clamped_plane_is : clamping.left ≡ clamped numbers
+  clamped_plane_is : clamping.left ≡ clamped highest_sample numbers
   clamped_plane_is = clamped_plane (rw (returned_done clamping.answer clamping.succeeds) at clamping.leaves)
 
   as_many_clamped : length clamping.left ≡ length numbers
   unfolding clamped
-  as_many_clamped = rw clamped_plane_is (length-map numbers held)
+  as_many_clamped = rw clamped_plane_is (length-map numbers (held highest_sample))
 
-  held_number_is : (n : ℕ) → n < length numbers → get_or clamping.left n (pos 0) ≡ held (get_or numbers n (pos 0))
+  held_number_is : (n : ℕ) → n < length numbers → get_or clamping.left n (pos 0) ≡ held highest_sample (get_or numbers n (pos 0))
   unfolding clamped
-  held_number_is n h = rw clamped_plane_is (get_or-map held numbers n (pos 0) (pos 0) h)
+  held_number_is n h = rw clamped_plane_is (get_or-map (held highest_sample) numbers n (pos 0) (pos 0) h)
 
   -- "A call applies it to a clamped plane into a second one of equal length.": curve returns 0, 0 for what clamp leaves
   pub clamped_accepted : (before : List ℤ) (answer : Answer) (left : List ℤ) → CurveLeaves clamping.left before answer left
@@ -155,14 +155,14 @@ module _ {f : Frame} {b : ℕ} (call : Developed f b) (c : Colour) where
 
 module _ {f : Frame} {b : ℕ} {c : Colour} (calls : DevelopedCurved f b c) (i j : ℕ) (hi : i < f.height) (hj : j < f.width) where
   -- the number at (i,j) is the curve's entry at the developed number held to 0..1,023
-  pub curved_left_is : curved_left calls i j ≡ curved_number (held (number_left calls.developed c i j))
+  pub curved_left_is : curved_left calls i j ≡ curved_number (held highest_sample (number_left calls.developed c i j))
   curved_left_is =
       let inside : i * f.width + j < length (plane_of calls.developed.left c) = omega (arith, size calls.developed c, digits_lt hi hj) in
       number_is calls.curving (i * f.width + j) (omega (arith, as_many_clamped calls.clamping))
       ∙ ap curved_number (held_number_is calls.clamping (i * f.width + j) inside)
 
   -- so it follows the rule there
-  pub curved_left_follows : FollowsRule (held (number_left calls.developed c i j)) (curved_left calls i j)
+  pub curved_left_follows : FollowsRule (held highest_sample (number_left calls.developed c i j)) (curved_left calls i j)
   curved_left_follows = rw curved_left_is (curved_follows _ (held_clamped (number_left calls.developed c i j)))
 
 -- ---- document 00, demand 3: frames that correspond show the same numbers through the curve
@@ -181,5 +181,5 @@ every_list_of_changes_curved gs f b c first last i j hi hj =
     let accepted = developed_accepted f b first.developed in
     let point = (every_list_of_changes gs f b accepted).1 first.developed last.developed i j hi hj in
     curved_left_is last _ _ point.row_inside point.column_inside
-    ∙ ap (λ (z : ℤ). curved_number (held z)) (same_number gs first.developed last.developed c i j point)
+    ∙ ap (λ (z : ℤ). curved_number (held highest_sample z)) (same_number gs first.developed last.developed c i j point)
     ∙ sym (curved_left_is first i j hi hj)

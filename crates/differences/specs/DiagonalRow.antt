@@ -7,10 +7,10 @@ use Rattle.std.proofs.Math.IntN.{sub_ℕ}
 use Rattle.toolkit.specs.Orders.{to_naturals}
 use Rattle.toolkit.specs.Entries.{Entries}
 use Rattle.toolkit.specs.Writes.{Wrote, wrote_as}
-use Rattle.frame.specs.Sites.{Frame, reflect, around}
+use Rattle.frame.specs.Sites.{Frame, highest_sample, reflect, around}
 use Rattle.method.specs.Gradients.{mosaic}
 use Rattle.method.specs.Four.{directions, sizes}
-use Rattle.method.specs.Planes.{weighted_mean, diagonally, corners, corner_gradients, chroma_site_difference}
+use Rattle.method.specs.Planes.{mean_under, diagonally, corners, corner_gradients, chroma_site_difference}
 use Rattle.method.specs.Sizes.{AtMost}
 use Rattle.method.proofs.Sizes.{around_size, final_difference_size}
 use Rattle.method.proofs.ColourLaws.{directions_path}
@@ -155,7 +155,7 @@ module _ {f : Frame} {i base c count above below : ℕ} {tops work n copied_up u
     four_corners = directions_path north_east north_west south_east south_west
 
     around_small : (r o : ℤ) → nat_abs (around f.height f.width (finals f) i (c + 2 * k) r o) ≤ 4092
-    unfolding finals mosaic
+    unfolding finals mosaic highest_sample
     around_small r o = around_size f taken.tall taken.wide 4092 (finals f)
         (final_difference_size f taken.tall taken.wide taken.ranged) i (c + 2 * k) r o
 
@@ -178,7 +178,7 @@ module _ {f : Frame} {i base c count above below : ℕ} {tops work n copied_up u
         let back : k + 4 - 4 ≡ k = omega arith in
         means.at (k + 4) (omega arith) (omega arith)
         ∙ (ap (corner_mean_read work east south n up down c) back
-        ∙ (ap₂ weighted_mean (four_corners k h) (ap corner_gradients (gradients_are row.gradient_row east south e s k h))
+        ∙ (ap₂ (mean_under corner_gradients) (gradients_are row.gradient_row east south e s k h) (four_corners k h)
         ∙ rw (chroma_not_traded f.phase i c k row.gradient_row.start) refl))
 
     pub others_stored : {at a : ℕ} {old new : List ℤ} → at ≡ a → Wrote (pos 0) at count (λ (k : ℕ). get_or m (k + 4) (pos 0)) old new

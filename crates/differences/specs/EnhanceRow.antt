@@ -6,13 +6,14 @@ use Rattle.std.proofs.Math.IntN.{sub_ℕ}
 use Rattle.toolkit.specs.Orders.{to_naturals}
 use Rattle.toolkit.specs.Entries.{Entries}
 use Rattle.toolkit.specs.Writes.{Wrote, wrote_as}
-use Rattle.frame.specs.Sites.{Frame, reflect, around}
+use Rattle.frame.specs.Sites.{Frame, highest_sample, reflect, around}
 use Rattle.frame.proofs.Reflection.{reflect_here}
+use Rattle.method.specs.Settings.{fusion_share}
 use Rattle.method.specs.Gradients.{mosaic}
 use Rattle.method.specs.Four.{directions, sizes}
-use Rattle.method.specs.Planes.{weighted_mean, straight, mean_two_off, fused, final_difference}
+use Rattle.method.specs.Planes.{straight_gradients, mean_under, straight, mean_two_off, fused, final_difference}
 use Rattle.method.specs.Sizes.{AtMost}
-use Rattle.method.proofs.Sizes.{around_size, green_difference_size, mean_size}
+use Rattle.method.proofs.Sizes.{around_size, green_difference_size, mean_under_size}
 use Rattle.method.proofs.ColourLaws.{directions_path}
 use Rattle.positions.specs.Taken.{Taken}
 use Rattle.positions.specs.Places.{plane_row}
@@ -132,7 +133,7 @@ module _ {f : Frame} {i base c count below above : ℕ} {tops work green n copie
     four_two_off = directions_path east west south north
 
     around_small : (r o : ℤ) → nat_abs (around f.height f.width (greens f) i (c + 2 * k) r o) ≤ 8184
-    unfolding greens mosaic
+    unfolding greens mosaic highest_sample
     around_small r o = around_size f taken.tall taken.wide 8184 (greens f)
         (green_difference_size f taken.tall taken.wide taken.ranged) i (c + 2 * k) r o
 
@@ -151,7 +152,7 @@ module _ {f : Frame} {i base c count below above : ℕ} {tops work green n copie
         ∙ ap (greens f i) (reflect_here f.width (c + 2 * k) taken.wide (site_inside row.gradient_row k low))
 
     D_small : nat_abs (get_or l (k + 4) (pos 0)) ≤ 8184
-    unfolding greens
+    unfolding greens highest_sample
     D_small =
         rw D_is (green_difference_size f taken.tall taken.wide taken.ranged i (c + 2 * k) inside (site_inside row.gradient_row k low))
 
@@ -171,15 +172,15 @@ module _ {f : Frame} {i base c count below above : ℕ} {tops work green n copie
         ∙ ap (straight_mean_read work east south n l green (below * f.width) (above * f.width)) back
 
     pub means_fit : Sized 8192 4 (count + 4) m
-    means_fit = by_sites (λ k h. rw (mean_at k h) (le_trans (mean_size 8184 _ _ (values_small k h)) (lit≤ tt)))
+    means_fit = by_sites (λ k h. rw (mean_at k h) (le_trans (mean_under_size 8184 _ _ _ (values_small k h)) (lit≤ tt)))
 
     M_is : (k : ℕ) → k < count → get_or m (k + 4) (pos 0) ≡ mean_two_off (mosaic f) i (c + 2 * k)
     unfolding mean_two_off greens mosaic
-    M_is k h = mean_at k h ∙ ap₂ weighted_mean (four_two_off k h) (gradients_are row.gradient_row east south e s k h)
+    M_is k h = mean_at k h ∙ ap₂ (mean_under straight_gradients) (gradients_are row.gradient_row east south e s k h) (four_two_off k h)
 
     pub finals_stored : {at a : ℕ} {old new : List ℤ} → at ≡ a
-        → Wrote (pos 0) at count (λ (k : ℕ). fused (get_or l (k + 4) (pos 0)) (get_or m (k + 4) (pos 0))) old new
+        → Wrote (pos 0) at count (λ (k : ℕ). fused fusion_share (get_or l (k + 4) (pos 0)) (get_or m (k + 4) (pos 0))) old new
         → Wrote (pos 0) a (chroma_count f i) (chroma_row f (finals f) i) old new
-    unfolding chroma_row finals final_difference greens
+    unfolding chroma_row finals final_difference greens mosaic
     finals_stored p w = rw (← p) (wrote_as w (count_is row.gradient_row) (λ k h.
-        ap₂ fused (D_is k h) (M_is k h) ∙ ap (λ (x : ℕ). finals f i (x + 2 * k)) row.gradient_row.start))
+        ap₂ (fused fusion_share) (D_is k h) (M_is k h) ∙ ap (λ (x : ℕ). finals f i (x + 2 * k)) row.gradient_row.start))

@@ -1,7 +1,7 @@
 -- What the rows of means read, entry by entry. Definitions alone. Assumes nothing.
 use Rattle.std.specs.Prelude.{List, [], ◌∷◌, ℕ, ◌+◌, ◌<◌, ℤ, pos, get_or}
 use Rattle.method.specs.Four.{directions, sizes}
-use Rattle.method.specs.Planes.{weighted_mean, corner_gradients}
+use Rattle.method.specs.Planes.{straight_gradients, corner_gradients, mean_under}
 use Rattle.method.specs.Sizes.{AtMost}
 use Rattle.half_rows.specs.Sources.{four_entries}
 
@@ -18,11 +18,11 @@ corners_read up down c k =
 -- M of entry k, and the mean of its corners
 abbrev pub straight_mean_read : List ℤ → ℕ → ℕ → List ℤ → List ℤ → List ℤ → ℕ → ℕ → ℕ → ℤ
 straight_mean_read work east south n row plane below above k =
-    weighted_mean (directions (straight_read row plane below above k)) (sizes (directions (four_entries work east south n k)))
+    mean_under straight_gradients (sizes (directions (four_entries work east south n k))) (directions (straight_read row plane below above k))
 
 abbrev pub corner_mean_read : List ℤ → ℕ → ℕ → List ℤ → List ℤ → List ℤ → ℕ → ℕ → ℤ
 corner_mean_read work east south n up down c k =
-    weighted_mean (directions (corners_read up down c k)) (corner_gradients (sizes (directions (four_entries work east south n k))))
+    mean_under corner_gradients (sizes (directions (four_entries work east south n k))) (directions (corners_read up down c k))
 
 -- values that are at most m
 pub record ValuesFit (m count : ℕ) (values : ℕ → List ℤ) : Type 0 where

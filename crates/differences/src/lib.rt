@@ -5,6 +5,7 @@ ghost use Rattle.std.specs.Prelude.{◌≡◌, List, ℕ, ◌+◌, ◌-◌, ◌<
 ghost use Rattle.toolkit.specs.Entries.{Entries};
 ghost use Rattle.toolkit.specs.Writes.{Wrote};
 ghost use Rattle.frame.specs.Sites.{frame};
+ghost use Rattle.method.specs.Settings.{fusion_share};
 ghost use Rattle.method.specs.Planes.{fused};
 ghost use Rattle.positions.specs.Taken.{SomeSamples};
 ghost use Rattle.records.specs.Stages.{EnhanceReads, EnhanceStores, DiagonalReads, DiagonalStores};
@@ -32,7 +33,7 @@ fn straight_mean(
         l.now green.now below above k }
 {
     let v = means::values(l[k + 5], l[k + 3], green[below + k], green[above + k]);
-    means::lifted_mean(v, gradients.at(k), 8192) as i32
+    means::lifted_mean(v, gradients.weights(k), 8192) as i32
 }
 
 // The means of count sites of a half row, of which mean forms that of site k.
@@ -51,7 +52,7 @@ fn fuse_row(l: &[i32; 2064], m: &[i32; 2064], count: usize, work: &mut [i32], at
     requires count_bound { (count ≤ 2048) × (at + count ≤ length work.old) }
     requires sized { (Sized 8192 4 (count + 4) l.now) × (Sized 8192 4 (count + 4) m.now) }
     ensures { Wrote (pos 0) at count
-        (λ (k : ℕ). fused (get_or l.now (k + 4) (pos 0)) (get_or m.now (k + 4) (pos 0)))
+        (λ (k : ℕ). fused fusion_share (get_or l.now (k + 4) (pos 0)) (get_or m.now (k + 4) (pos 0)))
         work.old work.new }
 {
     for k in 0..count {
@@ -78,7 +79,7 @@ fn corner_mean(
         down[k + c + 4],
         down[k + c + 3],
     );
-    let g = site_values::diagonal(gradients.at(k));
+    let g = site_values::diagonal(gradients.weights(k));
     means::lifted_mean(v, g, 4096) as i32
 }
 

@@ -4,7 +4,7 @@ use Rattle.std.proofs.Common.{◌∙◌, ap, subst}
 use native.Mathlib.Omega.{arith}
 use Rattle.std.proofs.Math.IntN.{sub_ℕ}
 use Rattle.std.proofs.Math.ListN.{get_or}
-use Rattle.frame.specs.Sites.{Frame, reflect}
+use Rattle.frame.specs.Sites.{Frame, highest_sample, reflect}
 use Rattle.method.specs.Gradients.{mosaic, samples_around, six_tap, six_tap_pair, eastbound, gradients, gradients_at, west_gradient}
 use Rattle.positions.specs.Taken.{Taken}
 use Rattle.records.specs.Quantities.{wests}
@@ -35,11 +35,12 @@ module _ (f : Frame) (i j : ℕ) (r : ℤ) (at : ℕ) (rows : List ℕ)
 
 -- the entries of a loaded row are samples
 pub loaded_small : (f : Frame) (y at : ℕ) (rows : List ℕ) → Taken f → Loaded f y at rows → Small 4095 at (at + f.width + 16) rows
+unfolding highest_sample
 loaded_small f y at rows taken row = record {
   each = λ x a b.
       let e : at + (x - at) ≡ x = omega arith in
-      let l : get_or rows (at + (x - at)) 0 ≤ 1023 = loaded_ranged f y at (x - at) rows taken row (omega arith) in
-      omega (arith, subst (λ (k : ℕ). get_or rows k 0 ≤ 1023) e l);
+      let l : get_or rows (at + (x - at)) 0 ≤ highest_sample = loaded_ranged f y at (x - at) rows taken row (omega arith) in
+      omega (arith, subst (λ (k : ℕ). get_or rows k 0 ≤ highest_sample) e l);
 }
 
 module _ (f : Frame) (i : ℕ) (at rows alongs : List ℕ) (reads : EastReads f i at rows alongs) where

@@ -7,6 +7,7 @@ use Rattle.frame.specs.Sites.{Frame, sample, around}
 use Rattle.frame.proofs.Reflection.{reflect_here}
 use Rattle.method.specs.Gradients.{mosaic, samples_around, gradients_at}
 use Rattle.method.specs.Green.{Direction, horizontal, vertical, estimate, horizontal_estimate, less_eight}
+use Rattle.method.specs.Settings.{threshold}
 use Rattle.method.specs.Green.{first_pass, first_pass_or, outcome_at, green_or, trial_difference}
 use Rattle.positions.specs.Taken.{Taken}
 use Rattle.mosaic_rows.specs.LoadedRows.{Seven}
@@ -60,9 +61,9 @@ sample_here f i j t h w =
 -- the trial difference of a site, from its gradients and estimates
 pub trial_is : (f : Frame) (d : Direction) (i j : ℕ) → Taken f → i < f.height → j < f.width
     → tried d (gradients_at (mosaic f) i j) (own_difference f horizontal i j) (own_difference f vertical i j) ≡ trial_difference (mosaic f) d i j
-unfolding tried own_difference trial_difference green_or outcome_at
+unfolding tried own_difference trial_difference green_or outcome_at mosaic
 trial_is f d i j t h w =
-    sym (own_is (first_pass_or (first_pass (gradients_at (mosaic f) i j)) d) (samples_around (mosaic f) i j)
+    sym (own_is (first_pass_or (first_pass threshold (gradients_at (mosaic f) i j)) d) (samples_around (mosaic f) i j)
     (samples_around (mosaic f) i j (pos 0) (pos 0)))
-    ∙ ap (less_eight (estimate (first_pass_or (first_pass (gradients_at (mosaic f) i j)) d) (samples_around (mosaic f) i j)))
+    ∙ ap (less_eight (estimate (first_pass_or (first_pass threshold (gradients_at (mosaic f) i j)) d) (samples_around (mosaic f) i j)))
     (sample_here f i j t h w)

@@ -9,7 +9,8 @@ use Rattle.toolkit.specs.BoundRules.{vals, lt_is}
 use Rattle.toolkit.specs.Naturals.{natural_sum}
 use Rattle.toolkit.specs.Shifts.{b_shift}
 use Rattle.toolkit.specs.Tests.{by_test, eqb_eq, eqb_yes, ltb_lt, ltb_ge}
-use Rattle.method.specs.Green.{Outcome, equal, strong_across, strong_down, weak, outcome, threshold, half}
+use Rattle.method.specs.Settings.{threshold}
+use Rattle.method.specs.Green.{Outcome, equal, strong_across, strong_down, weak, outcome, half}
 use Rattle.first_pass.specs.declared.FirstPass.{FirstPass}
 use Rattle.first_pass.specs.declared.FirstPass.TheVariants.{Equal, Across, Down, Weak}
 
@@ -56,12 +57,12 @@ min_is e f g = omega (arith, ints, clamps)
 pub max_is : {x y z : ℤ} {h v : ℕ} → z ≡ int_max x y → x ≡ pos h → y ≡ pos v → z ≡ pos (max h v)
 max_is e f g = omega (arith, ints, clamps)
 
-pub outcome_equal : (h v : ℕ) → h ≡ v → equal ≡ outcome h v
+pub outcome_equal : (h v : ℕ) → h ≡ v → equal ≡ outcome threshold h v
 unfolding outcome
 outcome_equal h v e = rw (eqb_yes {m = h} {n = v} e)
 
 pub outcome_unequal : (h v : ℕ) (x : Outcome) → ¬ (h ≡ v)
-    → x ≡ cond (ltb (17 * min h v) (10 * max h v)) (cond (ltb h v) strong_across strong_down) weak → x ≡ outcome h v
+    → x ≡ cond (ltb (17 * min h v) (10 * max h v)) (cond (ltb h v) strong_across strong_down) weak → x ≡ outcome threshold h v
 unfolding outcome threshold
 outcome_unequal h v x o e =
     let q : eqb h v ≡ false = by_test (eqb h v) _ (λ t. absurd (o (eqb_eq h v t))) (λ t. t) in

@@ -5,6 +5,7 @@ use Rattle.toolkit.specs.Differences.{as_difference}
 use Rattle.toolkit.specs.Orders.{to_naturals}
 use Rattle.toolkit.specs.Rounding.{floor_div, floor_low, floor_high, floor_is}
 use Rattle.frame.specs.Sites.{Around}
+use Rattle.method.specs.Settings.{threshold}
 use Rattle.method.specs.Gradients.{FourDirections}
 use Rattle.method.specs.Four.{directions, sizes}
 use Rattle.method.specs.Green.{Direction, horizontal, vertical, diagonal, Outcome, estimate, half, first_pass, first_pass_or, less_eight}
@@ -22,7 +23,7 @@ own diagonal a b = half (a +ℤ b)
 
 -- that of the first pass's direction where it has one
 unfoldable pub tried : Direction → FourDirections ℕ → ℤ → ℤ → ℤ
-tried k g a b = own (first_pass_or (first_pass g) k) a b
+tried k g a b = own (first_pass_or (first_pass threshold g) k) a b
 
 -- at site k of a row, from what the buffers hold
 abbrev pub site_trial : Direction → List ℤ → ℕ → ℕ → List ℤ → List ℤ → List ℤ → ℕ → ℤ
@@ -31,7 +32,7 @@ site_trial d work east south n a b k =
 
 -- the code of the outcome there, from its gradients
 abbrev pub site_code : List ℤ → ℕ → ℕ → List ℤ → ℕ → ℕ
-site_code work east south n k = first_code (first_pass (sizes (directions (four_entries work east south n k))))
+site_code work east south n k = first_code (first_pass threshold (sizes (directions (four_entries work east south n k))))
 
 -- what a row of trials reads
 pub record TrialReads (east south count : ℕ) (work n a b : List ℤ) : Type 0 where
@@ -40,7 +41,7 @@ pub record TrialReads (east south count : ℕ) (work n a b : List ℤ) : Type 0 
   pub down_small : (k : ℕ) → k < count → nat_abs (get_or b (k + 4) (pos 0)) ≤ 8184
 
 -- the code's choice
-pub settled_is : (k : Direction) (o : FirstPass) (g : FourDirections ℕ) (a b : ℤ) → outcome_of o ≡ first_pass g
+pub settled_is : (k : Direction) (o : FirstPass) (g : FourDirections ℕ) (a b : ℤ) → outcome_of o ≡ first_pass threshold g
     → settled o a b (own k a b) ≡ tried k g a b
 unfolding tried
 settled_is k o g a b e = go k o ∙ ap (λ (x : Outcome). own (first_pass_or x k) a b) e

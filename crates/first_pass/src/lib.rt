@@ -4,6 +4,8 @@
 ghost use Rattle.std.specs.Prelude.{◌≡◌, ℕ, ◌+◌, ◌*◌, ◌-◌, ◌<◌, ◌≤◌, pos, nat_abs, length};
 ghost use Rattle.toolkit.specs.Entries.{Entries};
 ghost use Rattle.toolkit.specs.Writes.{Wrote};
+ghost use Rattle.frame.specs.Sites.{highest_sample};
+ghost use Rattle.method.specs.Settings.{threshold};
 ghost use Rattle.method.specs.Four.{directions, sizes};
 ghost use Rattle.method.specs.Sizes.{Naturals};
 ghost use Rattle.method.specs.Green.{vertical, diagonal, first_pass};
@@ -29,7 +31,7 @@ pub enum FirstPass {
 
 // An estimate less 8·X: from X, the greens on both sides, and the Xs two off.
 fn line(x: u16, g1: u16, g2: u16, x1: u16, x2: u16) -> i32
-    requires { (x ≤ 1023) × (g1 ≤ 1023) × (g2 ≤ 1023) × (x1 ≤ 1023) × (x2 ≤ 1023) }
+    requires { (x ≤ highest_sample) × (g1 ≤ highest_sample) × (g2 ≤ highest_sample) × (x1 ≤ highest_sample) × (x2 ≤ highest_sample) }
     ensures { result ≡ line_difference x g1 g2 x1 x2 }
 {
     4 * (i32::from(g1) + i32::from(g2)) - 4 * i32::from(x) - 2 * (i32::from(x1) + i32::from(x2))
@@ -68,12 +70,15 @@ pub fn line_row(rows: SevenRows<'_>, halves: Halves, a: &mut [i32; 2064], b: &mu
     }
 }
 
+// A site is strong where one sum of gradients is more than this many tenths of the other.
+const THRESHOLD: i32 = 17;
+
 // The first pass's answer, from the four gradients. They are an array with their bound in a clause: the means take them with another one, since
 // the sums of two are taken too.
 // Here and in `settle` the values are formed before the choice, so that a row of sites is decided side by side.
 pub fn decide(g: [i64; 4]) -> FirstPass
     requires { Naturals 40920 g }
-    ensures { outcome_of result ≡ first_pass (sizes (directions g)) }
+    ensures { outcome_of result ≡ first_pass threshold (sizes (directions g)) }
 {
     let h = g[0] as i32 + g[1] as i32;
     let v = g[2] as i32 + g[3] as i32;
@@ -82,7 +87,7 @@ pub fn decide(g: [i64; 4]) -> FirstPass
     } else {
         FirstPass::Down
     };
-    let unequal = if 17 * h.min(v) < 10 * h.max(v) {
+    let unequal = if THRESHOLD * h.min(v) < 10 * h.max(v) {
         way
     } else {
         FirstPass::Weak
@@ -128,7 +133,7 @@ pub struct Trial {
 fn try_site(g: [i64; 4], a: i32, b: i32) -> Trial
     requires { (Naturals 40920 g) × (nat_abs a ≤ 8184) × (nat_abs b ≤ 8184) }
     ensures { (result.diagonal ≡ tried diagonal (sizes (directions g)) a b) × (result.vertical ≡ tried vertical (sizes (directions g)) a b)
-        × (result.code ≡ first_code (first_pass (sizes (directions g)))) }
+        × (result.code ≡ first_code (first_pass threshold (sizes (directions g)))) }
 {
     let o = decide(g);
     Trial {

@@ -8,6 +8,7 @@ use Rattle.toolkit.specs.Writes.{Wrote, wrote_as}
 use Rattle.frame.specs.Sites.{Frame}
 use Rattle.method.specs.Gradients.{FourDirections, mosaic, gradients_at}
 use Rattle.method.specs.Four.{directions, sizes}
+use Rattle.method.specs.Settings.{threshold}
 use Rattle.method.specs.Green.{Direction, first_pass, outcome_at}
 use Rattle.positions.specs.Rings.{place_in_ring}
 use Rattle.positions.specs.HalfRows.{half_count, chroma_row}
@@ -82,9 +83,9 @@ module _ (f : Frame) (i base c count east south : ℕ) (at rows : List ℕ) (top
         same p q = rw (p, q)
 
     code_at : site_code work east south n k ≡ chroma_row f (first_codes f) i k
-    unfolding chroma_row first_codes outcome_at
+    unfolding chroma_row first_codes outcome_at mosaic
     code_at =
-        ap (λ (g : FourDirections ℕ). first_code (first_pass g)) (gradients_are gradient_row east south ee es k inside)
+        ap (λ (g : FourDirections ℕ). first_code (first_pass threshold g)) (gradients_are gradient_row east south ee es k inside)
         ∙ ap (λ (x : ℕ). first_codes f i (x + 2 * k)) r.start
 
   pub trial_reads : TrialReads east south count work n a b

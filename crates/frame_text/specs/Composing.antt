@@ -7,6 +7,7 @@ use Rattle.std.proofs.Math.Nat.{add-zero}
 use Rattle.std.proofs.Math.Numerals.{add-one}
 use Rattle.std.proofs.Math.ListN.{length-append}
 use Rattle.toolkit.specs.Tests.{eqb_yes}
+use Rattle.frame.specs.Sites.{highest_sample}
 use Rattle.answers.specs.Calls.{clamp_answer, clamped, curve_answer, after, Answer, no_refusal}
 use Rattle.answers.proofs.Clamped.{equal_lengths}
 use Rattle.curve.proofs.Plane.{clamped_passes}
@@ -76,7 +77,7 @@ module _ (W : ℕ) (r g b : List ℤ) (cr : ClampedNumbers r) (cg : ClampedNumbe
 
 -- a plane clamped into one of equal length
 pub clamp_done : (plane before last : List ℤ) (a : Answer) → length before ≡ length plane → a ≡ clamp_answer (length plane) (length before)
-    → last ≡ after a (clamped plane) before → last ≡ clamped plane
+    → last ≡ after a (clamped highest_sample plane) before → last ≡ clamped highest_sample plane
 unfolding clamp_answer
 clamp_done plane before last a same e left = left ∙ rw (e, eqb_yes same)
 
@@ -85,7 +86,7 @@ pub clamp_allowed : (plane filled : ℕ) → filled ≡ plane → clamp_answer p
 unfolding clamp_answer
 clamp_allowed plane filled same = rw (eqb_yes same)
 
--- nor does the curve refuse a clamped plane
-pub curve_allowed : (plane : List ℤ) (filled : ℕ) → filled ≡ length plane → curve_answer (clamped plane) filled ≡ no_refusal
+-- nor does the curve refuse a clamped highest_sample plane
+pub curve_allowed : (plane : List ℤ) (filled : ℕ) → filled ≡ length plane → curve_answer (clamped highest_sample plane) filled ≡ no_refusal
 curve_allowed plane filled same =
-    equal_lengths (clamped plane) filled (same ∙ sym (length_clamped_list plane)) ∙ clamped_passes plane
+    equal_lengths (clamped highest_sample plane) filled (same ∙ sym (length_clamped_list plane)) ∙ clamped_passes plane

@@ -40,7 +40,7 @@ not_below_zero : (v : ℤ) → lt_z v (pos 0) ≡ false → T (non_neg v)
 not_below_zero (pos n) e = tt
 not_below_zero (negsuc n) e = absurd (let z : ◌≡◌ {A = ℕ} 0 1 = cc in omega arith)
 
-held_low : (v : ℤ) → T (non_neg (held v))
+held_low : (v : ℤ) → T (non_neg (held highest_sample v))
 unfolding held highest_sample
 held_low v = by_test (lt_z v (pos 0)) _
     (λ t. rw t tt)
@@ -50,17 +50,17 @@ small : (v : ℤ) → T (non_neg v) → lt_z (pos 1023) v ≡ false → nat_abs 
 small (pos n) h e = ltb_ge 1023 n e
 small (negsuc n) h e = absurd h
 
-held_high : (v : ℤ) → nat_abs (held v) ≤ 1023
+held_high : (v : ℤ) → nat_abs (held highest_sample v) ≤ 1023
 unfolding held highest_sample
 held_high v = by_test (lt_z v (pos 0)) _
     (λ t. rw t (omega arith))
     (λ t. by_test (lt_z (pos 1023) v) _ (λ u. rw (t, u) (omega arith)) (λ u. rw (t, u) (small v (not_below_zero v t) u)))
 
-getD_clamped : (l : List ℤ) (k : ℕ) → get_or (clamped l) k (pos 0) ≡ held (get_or l k (pos 0))
+getD_clamped : (l : List ℤ) (k : ℕ) → get_or (clamped highest_sample l) k (pos 0) ≡ held highest_sample (get_or l k (pos 0))
 unfolding clamped held highest_sample
-getD_clamped l k = get_or-map held l k (pos 0)
+getD_clamped l k = get_or-map (held highest_sample) l k (pos 0)
 
-pub clamped_clamped : (l : List ℤ) → ClampedNumbers (clamped l)
+pub clamped_clamped : (l : List ℤ) → ClampedNumbers (clamped highest_sample l)
 clamped_clamped l = record {
   low = λ k. rw (getD_clamped l k) (held_low (get_or l k (pos 0)));
   high = λ k. rw (getD_clamped l k) (held_high (get_or l k (pos 0)));
@@ -92,18 +92,18 @@ curved_clamped l c = record {
 pub toned_clamped : (tone : Tone) (l : List ℤ) → ClampedNumbers (toned tone l)
 unfolding toned
 toned_clamped Clamped l = clamped_clamped l
-toned_clamped Curved l = curved_clamped (clamped l) (clamped_clamped l)
+toned_clamped Curved l = curved_clamped (clamped highest_sample l) (clamped_clamped l)
 
 -- ---- the planes that develop leaves, with the tone
 
-pub length_clamped_list : (l : List ℤ) → length (clamped l) ≡ length l
+pub length_clamped_list : (l : List ℤ) → length (clamped highest_sample l) ≡ length l
 unfolding clamped
-length_clamped_list l = length-map l held
+length_clamped_list l = length-map l (held highest_sample)
 
 pub length_toned_list : (tone : Tone) (l : List ℤ) → length (toned tone l) ≡ length l
 unfolding toned curved
 length_toned_list Clamped l = length_clamped_list l
-length_toned_list Curved l = length-map (clamped l) curved_number ∙ length_clamped_list l
+length_toned_list Curved l = length-map (clamped highest_sample l) curved_number ∙ length_clamped_list l
 
 pub length_plane : (f : Frame) (c : Colour) → length (plane f black_level c) ≡ f.height * f.width
 unfolding plane

@@ -7,11 +7,13 @@ use Rattle.std.proofs.Math.IntN.{pos}
 use Rattle.std.proofs.Math.ListN.{get_or}
 use Rattle.toolkit.specs.Tests.{by_test, ltb_lt, ltb_ge}
 use Rattle.toolkit.specs.Entries.{Entries}
-use Rattle.frame.specs.Sites.{Frame}
+use Rattle.toolkit.specs.Naturals.{not_negative}
+use Rattle.frame.specs.Sites.{Frame, highest_sample}
 use Rattle.method.specs.Gradients.{mosaic, gradients_at}
 use Rattle.method.specs.Four.{listed, same_four}
-use Rattle.method.specs.Sizes.{AtMost}
-use Rattle.method.proofs.Sizes.{gradients_size}
+use Rattle.method.specs.Planes.{weighing}
+use Rattle.method.specs.Sizes.{AtMost, Naturals}
+use Rattle.method.proofs.Sizes.{listed_naturals, weighing_size, gradients_size}
 use Rattle.positions.specs.Taken.{Taken}
 use Rattle.positions.specs.Places.{room, row_end}
 use Rattle.positions.specs.Rings.{place_in_ring, Round}
@@ -23,12 +25,25 @@ use Rattle.records.specs.Quantities.{wests, souths, norths, east_entry}
 use Rattle.records.specs.EntryLaws.{east_of_first, east_of_second, gradient_east, gradient_south}
 use Rattle.records.specs.Neighbours.{east_is_west, south_from_north}
 use Rattle.records.specs.Stages.{Gradients, Lent}
-use Rattle.half_rows.specs.Sources.{north_entry, four_entries, NorthRoom}
+use Rattle.half_rows.specs.Sources.{north_entry, four_entries, weighed_entries, GradientsFit, NorthRoom}
 use Rattle.half_rows.specs.Norths.{north_of_tops, north_of_work}
 
 -- "at most 40,920"
 pub gradients_most : (f : Frame) (i j : ℕ) → Taken f → AtMost 40920 (gradients_at (mosaic f) i j)
+unfolding highest_sample
 gradients_most f i j t = gradients_size f t.tall t.wide t.ranged i j
+
+-- what `SiteGradients::weights` answers: the four gradients are naturals, and so are those that means weigh
+module _ {count east south : ℕ} {work n : List ℤ} (fit : GradientsFit count east south work n) (k : ℕ) (low : k < count) where
+  pub weighed_are : four_entries work east south n k ≡ weighed_entries work east south n k
+  unfolding weighing
+  weighed_are =
+      let g = fit.each k low in
+      same_four (sym (not_negative _ g.east_from)) (sym (not_negative _ g.west_from)) (sym (not_negative _ g.south_from))
+      (sym (not_negative _ g.north_from))
+
+  pub weighed_naturals : Naturals 40920 (weighed_entries work east south n k)
+  weighed_naturals = listed_naturals _ refl (weighing_size _ _ (fit.each k low).most)
 
 -- the record of row i lies in work
 pub record_end : (f : Frame) (i base : ℕ) (tops work : List ℤ) → Lent f i base tops work → place_in_ring i * record_size f.width + record_size f.width ≤ length work

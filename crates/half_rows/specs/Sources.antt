@@ -1,5 +1,7 @@
--- Which entries `mirror`, `north` and `SiteGradients::at` read, and how large entries are. Definitions alone. Assumes nothing.
+-- Which entries `mirror`, `north` and `SiteGradients` read, and how large entries are. Definitions alone. Assumes nothing.
 use Rattle.std.specs.Prelude.{◌≡◌, cond, List, [], ◌∷◌, ℕ, ◌+◌, ◌*◌, ◌-◌, ◌/◌, ◌<◌, ◌≤◌, ltb, ℤ, pos, nat_abs, length, get_or}
+use Rattle.method.specs.Four.{directions, sizes, listed}
+use Rattle.method.specs.Planes.{weighing}
 use Rattle.method.specs.Sizes.{Naturals}
 use Rattle.positions.specs.Columns.{column_at}
 use Rattle.positions.specs.Rings.{place_in_ring, Round}
@@ -22,6 +24,10 @@ north_entry tops work W i k =
 abbrev pub four_entries : List ℤ → ℕ → ℕ → List ℤ → ℕ → List ℤ
 four_entries work east south n k =
     get_or work (east + k + 1) (pos 0) ∷ get_or work (east + k) (pos 0) ∷ get_or work (south + k) (pos 0) ∷ get_or n (k + 4) (pos 0) ∷ []
+
+-- the same four as the means of the site weigh them
+abbrev pub weighed_entries : List ℤ → ℕ → ℕ → List ℤ → ℕ → List ℤ
+weighed_entries work east south n k = listed (weighing (sizes (directions (four_entries work east south n k))))
 
 -- of a `SiteGradients` of count sites: what `at` reads of each lies in the buffers, and is four gradients
 pub record GradientsFit (count east south : ℕ) (work n : List ℤ) : Type 0 where

@@ -8,7 +8,7 @@ ghost use Rattle.toolkit.specs.Entries.{Entries};
 ghost use Rattle.toolkit.specs.Writes.{Wrote};
 ghost use Rattle.frame.specs.Sites.{reflect};
 ghost use Rattle.positions.specs.HalfRows.{half_count};
-ghost use Rattle.half_rows.specs.Sources.{source_entry, north_entry, four_entries, GradientsFit, NorthRoom};
+ghost use Rattle.half_rows.specs.Sources.{source_entry, north_entry, four_entries, weighed_entries, GradientsFit, NorthRoom};
 
 use positions::Row;
 
@@ -57,6 +57,15 @@ impl SiteGradients<'_> {
         ensures { result ≡ four_entries self.entry.work.now self.entry.east self.entry.south self.entry.north.now k }
     {
         four(self.work, self.east, self.south, self.north, k)
+    }
+
+    // The four gradients of a site as its means weigh them. The first pass decides by those of `at`.
+    #[tactic(auto, using(crate::specs::SiteGradients::weighed_are))]
+    pub fn weights(self, k: usize) -> [i64; 4]
+        requires { k < self.count }
+        ensures { result ≡ weighed_entries self.entry.work.now self.entry.east self.entry.south self.entry.north.now k }
+    {
+        self.at(k)
     }
 }
 

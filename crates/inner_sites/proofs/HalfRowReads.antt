@@ -3,7 +3,7 @@
 use Rattle.std.specs.Prelude.{◌≡◌, List, ℕ, ◌+◌, ◌*◌, ◌-◌, ◌≤◌, ℤ, pos, get_or}
 use Rattle.std.proofs.Common.{arith}
 use Rattle.frame.specs.InnerSites.{Inner}
-use Rattle.method.specs.Green.{reach}
+use Rattle.method.specs.Settings.{reach}
 use Rattle.positions.specs.HalfRows.{half_count}
 use Rattle.half_rows.specs.Sources.{four_entries}
 use Rattle.sums.specs.Sums.{with_columns, with_rows, with_both}
@@ -18,7 +18,7 @@ use Rattle.inner_sites.proofs.OwnColumns.{SameEntries, OwnSites, own_site, alike
 -- site k of the columns c, c + 2, .. of a row: column c + 2·k, at entry k + 4 of the half row
 module _ (W c k : ℕ) (small : c ≤ 1) where
   -- its gradients: E of the half row stands from entry east on, the first of them that of a reflected column
-  pub gradients_alike : (east south : ℕ) (n : List ℤ) {work work' : List ℤ} → Inner W trials_off (c + 2 * k)
+  pub gradients_alike : (east south : ℕ) (n : List ℤ) {work work' : List ℤ} → Inner W (trials_off reach) (c + 2 * k)
       → SameEntries (pos 0) (east + 1) (east + half_count W c + 1) work work' → SameEntries (pos 0) south (south + half_count W c) work work'
       → four_entries work east south n k ≡ four_entries work' east south n k
   gradients_alike east south n inner e s =

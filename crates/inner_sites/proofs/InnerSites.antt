@@ -1,7 +1,7 @@
 -- Document 02, A3: "the proofs show that every position read for it lies in the frame", for a site 20 or more rows and columns from every
 -- edge. Over the method: each step's positions, and that nothing farther off counts. Over the code: the row numbers. The columns are in
 -- `RowReads` and `HalfRowReads`. No hypothesis but the distance to the edges. Assumes nothing.
-use Rattle.std.specs.Prelude.{◌≡◌, ℕ, ◌+◌, ◌-◌, ◌≤◌, ℤ, nat_abs, ◌+ℤ◌}
+use Rattle.std.specs.Prelude.{◌≡◌, refl, ℕ, ◌+◌, ◌-◌, ◌≤◌, ℤ, nat_abs, ◌+ℤ◌}
 use Rattle.std.proofs.Common.{sym, ◌∙◌}
 use Rattle.std.proofs.Math.Path.{ap}
 use native.Mathlib.Omega.{arith}
@@ -20,14 +20,19 @@ use Rattle.toolkit.specs.Orders.{to_naturals}
 use Rattle.frame.specs.Sites.{Frame, Colour, around}
 use Rattle.frame.specs.InnerSites.{Inner}
 use Rattle.frame.proofs.InnerSites.{inner_near, read_as_written}
+use Rattle.method.specs.Settings.{reach}
 use Rattle.method.specs.Gradients.{mosaic}
 use Rattle.method.specs.Planes.{less_black, number_at, entry_at}
+use Rattle.method.proofs.Sizes.{usual_allowed}
 use Rattle.method.proofs.PlaneLaws.{number_is_output, entry_is_code}
 use Rattle.inner_sites.specs.Distances.{gradient_distance, second_pass_distance, enhancement_distance, corner_distance, neighbour_distance, differences_off, finals_off, greens_off, trials_off, reading_distance}
 use Rattle.inner_sites.proofs.StepDistances.{within_margin}
 use Rattle.inner_sites.specs.FarSites.{FarFromEdges, Near, ReadAsWritten, StepAsWritten, StepsAsWritten, SameWindow}
 use Rattle.inner_sites.proofs.Surroundings.{written_near, InnerSite, Alike}
 use Rattle.inner_sites.proofs.Stages.{output_alike, entry_alike}
+
+reach_few : reach ≤ 4
+reach_few = usual_allowed.reach_high
 
 -- a position that is read for an inner one, off away or less
 inner_off : {n i : ℕ} (off x : ℕ) → Inner n 0 i → Near off i x → Inner n off x
@@ -49,11 +54,11 @@ module _ (f : Frame) (i j : ℕ) (far : FarFromEdges f i j) where
     column = inner_column;
   }
 
-  step_as_written : (off d : ℕ) → off + d ≤ reading_distance → StepAsWritten f off d i j
+  step_as_written : (off d : ℕ) → off + d ≤ reading_distance reach → StepAsWritten f off d i j
   step_as_written off d h x y nx ny r c hr hc = (
-    read_as_written r (omega (arith, far.rows_below)) (inner_off off x inner_row nx) (omega (arith, within_margin)),
+    read_as_written r (omega (arith, far.rows_below)) (inner_off off x inner_row nx) (omega (arith, within_margin reach reach_few)),
     read_as_written c (omega (arith, far.columns_east)) (inner_off off y inner_column ny)
-        (omega (arith, within_margin)),
+        (omega (arith, within_margin reach reach_few)),
   )
 
   -- "every position read for it lies in the frame", at every step
@@ -63,9 +68,9 @@ module _ (f : Frame) (i j : ℕ) (far : FarFromEdges f i j) where
     neighbours = step_as_written 0 neighbour_distance (omega arith);
     corners = step_as_written differences_off corner_distance (omega arith);
     enhancement = step_as_written finals_off enhancement_distance (omega arith);
-    second_pass = step_as_written greens_off second_pass_distance (omega arith);
-    gradients = step_as_written trials_off gradient_distance (omega arith);
-    samples = step_as_written 0 reading_distance (omega arith) i j here here;
+    second_pass = step_as_written greens_off (second_pass_distance reach) (omega arith);
+    gradients = step_as_written (trials_off reach) gradient_distance (omega arith);
+    samples = step_as_written 0 (reading_distance reach) (omega arith) i j here here;
   }
     where
       here : {x : ℕ} → Near 0 x x
@@ -78,16 +83,16 @@ written_apart : (x y i i' : ℕ) (r : ℤ) → pos x ≡ pos i +ℤ r → pos y 
 written_apart x y i i' r = rw (as_difference r) (simp to_naturals (omega arith))
 
 module _ (f f' : Frame) (i j i' j' : ℕ) (far : FarFromEdges f i j) (far' : FarFromEdges f' i' j') (same : SameWindow f f' i j i' j') where
-  module _ (r c : ℤ) (hr : nat_abs r + 0 ≤ reading_distance) (hc : nat_abs c + 0 ≤ reading_distance) where
-    here : ReadAsWritten f reading_distance i j
+  module _ (r c : ℤ) (hr : nat_abs r + 0 ≤ reading_distance reach) (hc : nat_abs c + 0 ≤ reading_distance reach) where
+    here : ReadAsWritten f (reading_distance reach) i j
     here = (every_step_as_written f i j far).samples
 
-    there : ReadAsWritten f' reading_distance i' j'
+    there : ReadAsWritten f' (reading_distance reach) i' j'
     there = (every_step_as_written f' i' j' far').samples
 
     -- what is the same at all sites of the window is the same where it is read, r rows and c columns off
     window_read : {X : Type 0} (q q' : ℕ → ℕ → X)
-        → ((x y x' y' : ℕ) → x + i' ≡ x' + i → y + j' ≡ y' + j → Near reading_distance i x → Near reading_distance j y → q x y ≡ q' x' y')
+        → ((x y x' y' : ℕ) → x + i' ≡ x' + i → y + j' ≡ y' + j → Near (reading_distance reach) i x → Near (reading_distance reach) j y → q x y ≡ q' x' y')
         → around f.height f.width q i j r c ≡ around f'.height f'.width q' i' j' r c
     unfolding around
     window_read q q' e =
@@ -98,9 +103,12 @@ module _ (f f' : Frame) (i j i' j' : ℕ) (far : FarFromEdges f i j) (far' : Far
         e _ _ _ _ (written_apart _ _ i i' r a.0 b.0) (written_apart _ _ j j' c a.1 b.1)
         (record { not_before = omega arith; not_behind = omega arith }) (record { not_before = omega arith; not_behind = omega arith })
 
-  window_alike : Alike (mosaic f) (mosaic f') 0 i j i' j'
+  window_alike : Alike reach (mosaic f) (mosaic f') 0 i j i' j'
   unfolding mosaic
   window_alike = record {
+    settings_same = refl;
+    reach_is = refl;
+    reach_few = reach_few;
     inside = inner_site f i j far;
     inside' = inner_site f' i' j' far';
     samples = λ r c hr hc. window_read r c hr hc _ _ (λ x y x' y' a b n o. ap pos (same.samples x y x' y' a b n o));

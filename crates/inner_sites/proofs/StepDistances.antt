@@ -1,13 +1,14 @@
 -- How far each step of the method reads around a site. Assumes nothing.
-use Rattle.std.specs.Prelude.{◌≡◌, ℕ, zero, suc, ◌*◌, ◌≤◌, ℤ, negsuc, neg_ℤ, nat_abs, ◌+ℤ◌, ◌-ℤ◌, ◌*ℤ◌}
+use Rattle.std.specs.Prelude.{◌≡◌, ℕ, zero, suc, ◌+◌, ◌*◌, ◌≤◌, ℤ, negsuc, neg_ℤ, nat_abs, ◌+ℤ◌, ◌-ℤ◌, ◌*ℤ◌}
 use Rattle.std.proofs.Math.Path.{refl}
 use Rattle.std.proofs.Common.{ap, arith}
 use Rattle.std.proofs.Math.IntN.{pos}
 use Rattle.toolkit.specs.Orders.{to_naturals}
 use Rattle.frame.specs.Sites.{Around}
 use Rattle.frame.specs.InnerSites.{margin}
+use Rattle.method.specs.Settings.{reach}
 use Rattle.method.specs.Gradients.{exchanged, six_tap, six_tap_pair, eastbound, east_gradient, west_gradient, gradients}
-use Rattle.method.specs.Green.{Direction, horizontal, vertical, diagonal, horizontal_estimate, estimate, sum_about, column_sum, horizontal_sum, vertical_sum, diagonal_sum, second_pass, reach}
+use Rattle.method.specs.Green.{Direction, horizontal, vertical, diagonal, horizontal_estimate, estimate, sum_about, column_sum, horizontal_sum, vertical_sum, diagonal_sum, second_pass}
 use Rattle.method.specs.Planes.{straight, diagonally, corners}
 use Rattle.inner_sites.specs.Distances.{AlikeTo, Reads, gradient_distance, second_pass_distance, enhancement_distance, corner_distance, neighbour_distance, differences_off, finals_off, greens_off, trials_off, reading_distance}
 
@@ -89,26 +90,26 @@ twice : (t : ℤ) → nat_abs (pos 2 *ℤ t) ≡ 2 * nat_abs t
 twice (pos n) = refl
 twice (negsuc n) = simp to_naturals (omega arith)
 
-module _ (N N' : Around ℤ) (same : AlikeTo second_pass_distance N N') where
-  column_sum_alike : column_sum N ≡ column_sum N'
+module _ (n : ℕ) (N N' : Around ℤ) (same : AlikeTo (second_pass_distance n) N N') where
+  column_sum_alike : column_sum n N ≡ column_sum n N'
   unfolding column_sum second_pass_distance
-  column_sum_alike = sum_alike reach _ _ λ t h.
+  column_sum_alike = sum_alike n _ _ λ t h.
       rw (same (pos 0) (pos 0) (omega arith) (omega arith), same (pos 0) (pos 2 *ℤ t) (omega arith) (omega (arith, twice t))) refl
 
-pub second_pass_read : Reads second_pass_distance (λ (N : Around (Direction → ℤ)). second_pass (λ k r c. N r c k))
+pub second_pass_read : (n : ℕ) → Reads (second_pass_distance n) (λ (N : Around (Direction → ℤ)). second_pass n (λ k r c. N r c k))
 unfolding second_pass horizontal_sum vertical_sum diagonal_sum
-second_pass_read N N' same =
+second_pass_read n N N' same =
     rw (
-      column_sum_alike (λ r c. N r c horizontal) (λ r c. N' r c horizontal) (along horizontal),
-      column_sum_alike (λ r c. N c r vertical) (λ r c. N' c r vertical) (down vertical),
-      column_sum_alike (λ r c. N r c diagonal) (λ r c. N' r c diagonal) (along diagonal),
-      column_sum_alike (λ r c. N c r diagonal) (λ r c. N' c r diagonal) (down diagonal),
+      column_sum_alike n (λ r c. N r c horizontal) (λ r c. N' r c horizontal) (along horizontal),
+      column_sum_alike n (λ r c. N c r vertical) (λ r c. N' c r vertical) (down vertical),
+      column_sum_alike n (λ r c. N r c diagonal) (λ r c. N' r c diagonal) (along diagonal),
+      column_sum_alike n (λ r c. N c r diagonal) (λ r c. N' c r diagonal) (down diagonal),
     ) refl
   where
-    along : (k : Direction) → AlikeTo second_pass_distance (λ r c. N r c k) (λ r c. N' r c k)
+    along : (k : Direction) → AlikeTo (second_pass_distance n) (λ r c. N r c k) (λ r c. N' r c k)
     along k r c h l = ap (λ (q : Direction → ℤ). q k) (same r c h l)
 
-    down : (k : Direction) → AlikeTo second_pass_distance (λ r c. N c r k) (λ r c. N' c r k)
+    down : (k : Direction) → AlikeTo (second_pass_distance n) (λ r c. N c r k) (λ r c. N' c r k)
     down k r c h l = along k c r l h
 
 -- ---- what stands straight or diagonally off
@@ -138,10 +139,16 @@ corners_read N N' same =
 
 -- ---- how far each of them is read for a site, in figures
 
-pub distances_in_figures : (differences_off ≡ 1) × (finals_off ≡ 2) × (greens_off ≡ 4) × (trials_off ≡ 10) × (reading_distance ≡ 14)
+-- for every reach
+pub twice_and_eight : (n : ℕ) → reading_distance n ≡ 2 * n + 8
+unfolding reading_distance trials_off greens_off finals_off differences_off neighbour_distance corner_distance enhancement_distance second_pass_distance gradient_distance
+twice_and_eight n = omega arith
+
+-- for that of every frame
+pub distances_in_figures : (differences_off ≡ 1) × (finals_off ≡ 2) × (greens_off ≡ 4) × (trials_off reach ≡ 10) × (reading_distance reach ≡ 14)
 unfolding reading_distance trials_off greens_off finals_off differences_off neighbour_distance corner_distance enhancement_distance second_pass_distance gradient_distance reach
 distances_in_figures = (refl, refl, refl, refl, refl)
 
--- the request's bound leaves room for all of it
-pub within_margin : reading_distance ≤ margin
-within_margin = omega (arith, distances_in_figures)
+-- the request's bound leaves room for all of it, whatever the reach
+pub within_margin : (n : ℕ) → n ≤ 4 → reading_distance n ≤ margin
+within_margin n h = omega (arith, twice_and_eight n)

@@ -1,7 +1,6 @@
 -- Document 02, A3: how far from a site each step of the method reads. Definitions alone. Assumes nothing.
 use Rattle.std.specs.Prelude.{◌≡◌, ℕ, ◌+◌, ◌*◌, ◌≤◌, ℤ, nat_abs}
 use Rattle.frame.specs.Sites.{Around}
-use Rattle.method.specs.Green.{reach}
 
 -- two surroundings are alike to d rows and d columns off
 abbrev pub AlikeTo : {X : Type 0} → ℕ → Around X → Around X → Type 0
@@ -17,8 +16,9 @@ Reads {X} d step = (N N' : Around X) → AlikeTo d N N' → step N ≡ step N'
 unfoldable pub gradient_distance : ℕ
 gradient_distance = 4
 
-unfoldable pub second_pass_distance : ℕ
-second_pass_distance = 2 * reach
+-- t goes to the reach
+unfoldable pub second_pass_distance : ℕ → ℕ
+second_pass_distance reach = 2 * reach
 
 unfoldable pub enhancement_distance : ℕ
 enhancement_distance = 2
@@ -44,9 +44,9 @@ unfoldable pub greens_off : ℕ
 greens_off = finals_off + enhancement_distance
 
 -- the trial differences r_k
-unfoldable pub trials_off : ℕ
-trials_off = greens_off + second_pass_distance
+unfoldable pub trials_off : ℕ → ℕ
+trials_off reach = greens_off + second_pass_distance reach
 
 -- the samples: the distance that is read for a site in all
-unfoldable pub reading_distance : ℕ
-reading_distance = trials_off + gradient_distance
+unfoldable pub reading_distance : ℕ → ℕ
+reading_distance reach = trials_off reach + gradient_distance

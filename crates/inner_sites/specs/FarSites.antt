@@ -2,6 +2,7 @@
 use Rattle.std.specs.Prelude.{◌≡◌, ℕ, ◌+◌, ◌-◌, ◌≤◌, ℤ, pos, nat_abs, ◌+ℤ◌}
 use Rattle.frame.specs.Sites.{Frame, sample, colour, reflect}
 use Rattle.frame.specs.InnerSites.{margin}
+use Rattle.method.specs.Settings.{reach}
 use Rattle.inner_sites.specs.Distances.{gradient_distance, second_pass_distance, enhancement_distance, corner_distance, neighbour_distance, differences_off, finals_off, greens_off, trials_off, reading_distance}
 
 -- "a site 20 or more rows and columns from every edge"
@@ -36,15 +37,15 @@ pub record StepsAsWritten (f : Frame) (i j : ℕ) : Type 0 where
   -- the final difference reads D two off
   pub enhancement : StepAsWritten f finals_off enhancement_distance i j
   -- D reads the trial differences as far as t reaches
-  pub second_pass : StepAsWritten f greens_off second_pass_distance i j
+  pub second_pass : StepAsWritten f greens_off (second_pass_distance reach) i j
   -- the trial differences, and every mean, read the samples that gradients and estimates are formed of
-  pub gradients : StepAsWritten f trials_off gradient_distance i j
+  pub gradients : StepAsWritten f (trials_off reach) gradient_distance i j
   -- all of it
-  pub samples : ReadAsWritten f reading_distance i j
+  pub samples : ReadAsWritten f (reading_distance reach) i j
 
 -- samples and colours about (i,j) of one frame and (i',j') of another are the same, as far as is read
 pub record SameWindow (f f' : Frame) (i j i' j' : ℕ) : Type 0 where
-  pub samples : (x y x' y' : ℕ) → x + i' ≡ x' + i → y + j' ≡ y' + j → Near reading_distance i x → Near reading_distance j y
+  pub samples : (x y x' y' : ℕ) → x + i' ≡ x' + i → y + j' ≡ y' + j → Near (reading_distance reach) i x → Near (reading_distance reach) j y
       → sample f x y ≡ sample f' x' y'
-  pub colours : (x y x' y' : ℕ) → x + i' ≡ x' + i → y + j' ≡ y' + j → Near reading_distance i x → Near reading_distance j y
+  pub colours : (x y x' y' : ℕ) → x + i' ≡ x' + i → y + j' ≡ y' + j → Near (reading_distance reach) i x → Near (reading_distance reach) j y
       → colour f.phase x y ≡ colour f'.phase x' y'

@@ -1,10 +1,13 @@
--- The planes and the map at a site. Assumes nothing.
-use Rattle.std.specs.Prelude.{◌≡◌, ℕ, ◌<◌, pos}
+-- The planes and the map at a site, and the final difference of equal shares and differences. Assumes nothing.
+use Rattle.std.specs.Prelude.{◌≡◌, refl, ℕ, ◌<◌, ℤ, pos}
 use Rattle.toolkit.specs.Raster.{getD_raster}
 use Rattle.frame.specs.Sites.{Frame, Colour}
 use Rattle.method.specs.Gradients.{mosaic}
 use Rattle.method.specs.Green.{decision_entry, decision_map}
-use Rattle.method.specs.Planes.{output, less_black, plane, number_at, entry_at}
+use Rattle.method.specs.Planes.{fused, output, less_black, plane, number_at, entry_at}
+
+pub same_fused : {share share' : ℕ} {D D' M M' : ℤ} → share ≡ share' → D ≡ D' → M ≡ M' → fused share D M ≡ fused share' D' M'
+same_fused e d m = rw (e, d, m) refl
 
 -- the number at (i,j) is the output there, less the black level
 pub number_is_output : (f : Frame) (b : ℕ) (c : Colour) (i j : ℕ) → i < f.height → j < f.width

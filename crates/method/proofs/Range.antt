@@ -1,5 +1,5 @@
 -- Where the outputs lie: samples from 0 to T give outputs from −2T to 3T, stage by stage. Assumes nothing.
-use Rattle.std.specs.Prelude.{◌≡◌, ℕ, ◌+◌, ◌*◌, ◌<◌, ◌≤◌, ℤ, neg_ℤ, ◌+ℤ◌, ◌-ℤ◌, ◌*ℤ◌, ◌≤ℤ◌}
+use Rattle.std.specs.Prelude.{◌≡◌, ℕ, ◌+◌, ◌*◌, ◌-◌, ◌<◌, ◌≤◌, ℤ, neg_ℤ, ◌+ℤ◌, ◌-ℤ◌, ◌*ℤ◌, ◌≤ℤ◌}
 use Rattle.std.proofs.Math.Path.{ap₂}
 use Rattle.std.proofs.Math.Nat.{mul-le-mul_left}
 use Rattle.std.proofs.Common.{arith}
@@ -10,9 +10,10 @@ use Rattle.toolkit.specs.Orders.{Ranged, to_naturals}
 use Rattle.toolkit.specs.Rounding.{round_half_up, round_least, round_most}
 use Rattle.frame.specs.Sites.{Colour, green, Around, around}
 use Rattle.frame.proofs.Reflection.{reflect_lt, reflect_here}
+use Rattle.method.specs.Settings.{SettingsAllowed}
 use Rattle.method.specs.Gradients.{Mosaic, around_in, samples_around, FourDirections}
 use Rattle.method.specs.Green.{Direction, horizontal, vertical, diagonal, line_estimate, horizontal_estimate, estimate, green_or, less_eight, trial_difference, second_pass_at}
-use Rattle.method.specs.Planes.{inner_round, times, sum_of_four, weighted_sum, total, weighted_mean, green_difference, straight, mean_two_off, fusion_share, fused, final_difference, same, diagonally, corners, chroma_site_difference, colour_difference, green_quarters, quarters, final_round, output}
+use Rattle.method.specs.Planes.{inner_round, times, sum_of_four, weighted_sum, total, weighted_mean, mean_under, green_difference, straight, mean_two_off, fused, final_difference, same, diagonally, corners, chroma_site_difference, colour_difference, green_quarters, quarters, final_round, output}
 use Rattle.method.proofs.GreenLaws.{diagonal_is_whole, green_is_decided}
 use Rattle.method.proofs.MeanLaws.{total_above}
 
@@ -82,12 +83,22 @@ module _ (B : ℕ) where
       (sum_ranged _ _ _ _ _ _ _ _ (times_ranged _ _ r.at_east) (times_ranged _ _ r.at_west) (times_ranged _ _ r.at_south)
       (times_ranged _ _ r.at_north))
 
-  fused_ranged : (D M : ℤ) → Ranged (2 * B) (2 * B) D → Ranged (2 * B) (2 * B) M → Ranged B B (fused D M)
-  unfolding fused inner_round fusion_share
-  fused_ranged D M p q = round_ranged B B _ 200 (omega arith) (shares D M p q)
-    where
-      shares : (D M : ℤ) → Ranged (2 * B) (2 * B) D → Ranged (2 * B) (2 * B) M → Ranged (B * 200) (B * 200) (pos 33 *ℤ D +ℤ pos 67 *ℤ M)
-      shares D M = rw (as_difference D, as_difference M) (simp to_naturals (omega arith))
+  -- any mean is the weighted mean of its values under some gradients
+  pub mean_under_ranged : (paired : FourDirections ℕ → FourDirections ℕ) (g : FourDirections ℕ) (v : FourDirections ℤ) → Four (Ranged B B) v
+      → Ranged B B (mean_under paired g v)
+  unfolding mean_under
+  mean_under_ranged paired g v r = mean_ranged v _ r
+
+  shares_ranged : (s t : ℕ) (x y : ℤ) → Ranged (2 * B * s) (2 * B * s) x → Ranged (2 * B * t) (2 * B * t) y
+      → Ranged (B * (2 * (s + t))) (B * (2 * (s + t))) (x +ℤ y)
+  shares_ranged s t x y = rw (as_difference x, as_difference y) (simp to_naturals (omega arith))
+
+fused_ranged : (B share : ℕ) → share ≤ 100 → (D M : ℤ) → Ranged (2 * B) (2 * B) D → Ranged (2 * B) (2 * B) M → Ranged B B (fused share D M)
+unfolding fused inner_round times
+fused_ranged B share h D M p q =
+    let whole : share + (100 - share) ≡ 100 = omega arith in
+    round_ranged B B _ 200 (omega arith)
+    (rw (whole) at (shares_ranged B share (100 - share) _ _ (times_ranged (2 * B) share D p) (times_ranged (2 * B) (100 - share) M q)))
 
 straight_four : (P : ℤ → Type 0) (k : ℕ) (N : Around ℤ) → ((r c : ℤ) → P (N r c)) → Four P (straight k N)
 unfolding straight
@@ -147,43 +158,44 @@ module _ (T : ℕ) (m : Mosaic) (s : SamplesRanged T m) where
   unfolding green_difference trial_difference
   green_difference_ranged i j hi hj = rw (green_is_decided m i j) (trial_difference_ranged (second_pass_at m i j) i j hi hj)
 
-  pub final_difference_ranged : Everywhere (Ranged (4 * T) (4 * T)) (final_difference m)
-  unfolding final_difference mean_two_off
-  final_difference_ranged i j hi hj =
-      fused_ranged (4 * T) _ _ (doubled T _ (green_difference_ranged i j hi hj)) (doubled T _
-      (mean_ranged (8 * T) _ _
-      (straight_four (Ranged (8 * T) (8 * T)) 2 _
-      (around_ranged (Ranged (8 * T) (8 * T)) (green_difference m) green_difference_ranged i j))))
+  module _ (allowed : SettingsAllowed m.settings) where
+    pub final_difference_ranged : Everywhere (Ranged (4 * T) (4 * T)) (final_difference m)
+    unfolding final_difference mean_two_off
+    final_difference_ranged i j hi hj =
+        fused_ranged (4 * T) _ (omega (arith, allowed.share_high)) _ _ (doubled T _ (green_difference_ranged i j hi hj)) (doubled T _
+        (mean_under_ranged (8 * T) _ _ _
+        (straight_four (Ranged (8 * T) (8 * T)) 2 _
+        (around_ranged (Ranged (8 * T) (8 * T)) (green_difference m) green_difference_ranged i j))))
 
-  pub chroma_site_ranged : (c : Colour) → Everywhere (Ranged (4 * T) (4 * T)) (chroma_site_difference m c)
-  unfolding chroma_site_difference
-  chroma_site_ranged c i j hi hj = by_test (same (m.colour_at i j) c) _ (λ t. rw t (final_difference_ranged i j hi hj))
-      (λ t. rw t
-      (mean_ranged (4 * T) _ _
-      (corners_four (Ranged (4 * T) (4 * T)) _
-      (around_ranged (Ranged (4 * T) (4 * T)) (final_difference m) final_difference_ranged i j))))
+    pub chroma_site_ranged : (c : Colour) → Everywhere (Ranged (4 * T) (4 * T)) (chroma_site_difference m c)
+    unfolding chroma_site_difference
+    chroma_site_ranged c i j hi hj = by_test (same (m.colour_at i j) c) _ (λ t. rw t (final_difference_ranged i j hi hj))
+        (λ t. rw t
+        (mean_under_ranged (4 * T) _ _ _
+        (corners_four (Ranged (4 * T) (4 * T)) _
+        (around_ranged (Ranged (4 * T) (4 * T)) (final_difference m) final_difference_ranged i j))))
 
-  pub colour_difference_ranged : (c : Colour) → Everywhere (Ranged (4 * T) (4 * T)) (colour_difference m c)
-  unfolding colour_difference
-  colour_difference_ranged c i j hi hj = by_test (same (m.colour_at i j) green) _
-      (λ t. rw t
-      (mean_ranged (4 * T) _ _
-      (straight_four (Ranged (4 * T) (4 * T)) 1 _
-      (around_ranged (Ranged (4 * T) (4 * T)) (chroma_site_difference m c) (chroma_site_ranged c) i j))))
-      (λ t. rw t (chroma_site_ranged c i j hi hj))
+    pub colour_difference_ranged : (c : Colour) → Everywhere (Ranged (4 * T) (4 * T)) (colour_difference m c)
+    unfolding colour_difference
+    colour_difference_ranged c i j hi hj = by_test (same (m.colour_at i j) green) _
+        (λ t. rw t
+        (mean_under_ranged (4 * T) _ _ _
+        (straight_four (Ranged (4 * T) (4 * T)) 1 _
+        (around_ranged (Ranged (4 * T) (4 * T)) (chroma_site_difference m c) (chroma_site_ranged c) i j))))
+        (λ t. rw t (chroma_site_ranged c i j hi hj))
 
-  pub green_quarters_ranged : Everywhere (Ranged (4 * T) (8 * T)) (green_quarters m)
-  unfolding green_quarters
-  green_quarters_ranged i j hi hj = by_test (same (m.colour_at i j) green) _ (λ t. rw t (four_ranged T _ (s.samples i j hi hj)))
-      (λ t. rw t (plus_four_ranged T _ _ (final_difference_ranged i j hi hj) (s.samples i j hi hj)))
+    pub green_quarters_ranged : Everywhere (Ranged (4 * T) (8 * T)) (green_quarters m)
+    unfolding green_quarters
+    green_quarters_ranged i j hi hj = by_test (same (m.colour_at i j) green) _ (λ t. rw t (four_ranged T _ (s.samples i j hi hj)))
+        (λ t. rw t (plus_four_ranged T _ _ (final_difference_ranged i j hi hj) (s.samples i j hi hj)))
 
-  pub quarters_ranged : (c : Colour) → Everywhere (Ranged (2 * T * 4) (3 * T * 4)) (quarters m c)
-  unfolding quarters
-  quarters_ranged c i j hi hj = by_test (same c green) _ (λ t. rw t (green_quarters_wider T _ (green_quarters_ranged i j hi hj)))
-      (λ t. rw t (minus_ranged T _ _ (green_quarters_ranged i j hi hj) (colour_difference_ranged c i j hi hj)))
+    pub quarters_ranged : (c : Colour) → Everywhere (Ranged (2 * T * 4) (3 * T * 4)) (quarters m c)
+    unfolding quarters
+    quarters_ranged c i j hi hj = by_test (same c green) _ (λ t. rw t (green_quarters_wider T _ (green_quarters_ranged i j hi hj)))
+        (λ t. rw t (minus_ranged T _ _ (green_quarters_ranged i j hi hj) (colour_difference_ranged c i j hi hj)))
 
-  -- every output lies in −2T to 3T
-  pub output_ranged : (c : Colour) → Everywhere (Ranged (2 * T) (3 * T)) (output m c)
-  unfolding output final_round
-  output_ranged c i j hi hj = by_test (same (m.colour_at i j) c) _ (λ t. rw t (measured_ranged T _ (s.samples i j hi hj)))
-      (λ t. rw t (round_ranged (2 * T) (3 * T) _ 4 (omega arith) (quarters_ranged c i j hi hj)))
+    -- every output lies in −2T to 3T
+    pub output_ranged : (c : Colour) → Everywhere (Ranged (2 * T) (3 * T)) (output m c)
+    unfolding output final_round
+    output_ranged c i j hi hj = by_test (same (m.colour_at i j) c) _ (λ t. rw t (measured_ranged T _ (s.samples i j hi hj)))
+        (λ t. rw t (round_ranged (2 * T) (3 * T) _ 4 (omega arith) (quarters_ranged c i j hi hj)))

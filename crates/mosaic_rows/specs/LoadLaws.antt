@@ -2,7 +2,7 @@
 use Rattle.std.specs.Prelude.{◌≡◌, refl, List, [], ◌∷◌, ℕ, zero, suc, ◌+◌, ◌*◌, ◌<◌, ◌≤◌, length, get_or}
 use Rattle.std.proofs.Common.{◌∙◌, arith}
 use Rattle.toolkit.specs.Writes.{Wrote}
-use Rattle.frame.specs.Sites.{Frame, sample}
+use Rattle.frame.specs.Sites.{Frame, highest_sample, sample}
 use Rattle.positions.specs.Columns.{column_at}
 use Rattle.positions.specs.ColumnLaws.{column_lt}
 use Rattle.positions.specs.Places.{plane_row}
@@ -33,7 +33,8 @@ pub loaded : {f : Frame} {i to : ℕ} {old new : List ℕ} → RowStored f i to 
 loaded w = record { entry = w.inside }
 
 -- its entries are samples
-pub loaded_ranged : (f : Frame) (i at x : ℕ) (rows : List ℕ) → Taken f → Loaded f i at rows → x < f.width + 16 → get_or rows (at + x) 0 ≤ 1023
+pub loaded_ranged : (f : Frame) (i at x : ℕ) (rows : List ℕ) → Taken f → Loaded f i at rows → x < f.width + 16
+    → get_or rows (at + x) 0 ≤ highest_sample
 unfolding sample
 loaded_ranged f i at x rows t l h = omega (arith, l.entry x h, t.ranged (i * f.width + column_at f.width x))
 

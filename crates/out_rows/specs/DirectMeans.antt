@@ -1,7 +1,7 @@
 -- The means at the green sites of a row, as the loop reads their values. Definitions alone. Assumes nothing.
 use Rattle.std.specs.Prelude.{List, [], ◌∷◌, ℕ, ◌+◌, ◌-◌, ◌<◌, ◌≤◌, ℤ, pos, length, get_or}
 use Rattle.method.specs.Four.{directions, sizes}
-use Rattle.method.specs.Planes.{weighted_mean}
+use Rattle.method.specs.Planes.{straight_gradients, mean_under}
 use Rattle.method.specs.Sizes.{AtMost}
 use Rattle.half_rows.specs.Sources.{four_entries, GradientsFit}
 use Rattle.out_rows.specs.declared.Places.{Places}
@@ -21,7 +21,7 @@ other_values p work other k = beside_values other p.start work p.below.finals p.
 
 -- the weighted mean of four values under the gradients of green site k
 abbrev mean_at : Places → List ℤ → List ℤ → List ℤ → ℕ → ℤ
-mean_at p work n values k = weighted_mean (directions values) (sizes (directions (four_entries work p.east p.south n k)))
+mean_at p work n values k = mean_under straight_gradients (sizes (directions (four_entries work p.east p.south n k))) (directions values)
 
 abbrev pub own_mean : Places → List ℤ → List ℤ → List ℤ → ℕ → ℤ
 own_mean p work n own k = mean_at p work n (own_values p work own k) k

@@ -94,7 +94,7 @@ pub fn samples(rows: &[u16; 98688], at: usize, c: usize, count: usize, dst: &mut
     }
 }
 
-// The weighted mean of four differences under the gradients of a site.
+// The weighted mean of four differences under four gradients.
 fn direct_mean(east: i32, west: i32, south: i32, north: i32, g: [i64; 4]) -> i32
     requires at_most { AtMost 4096 (sizes (directions (east ∷ west ∷ south ∷ north ∷ []))) }
     requires naturals { Naturals 40920 g }
@@ -133,7 +133,7 @@ impl Places {
             count: self.rest,
         };
         for k in 0..self.rest {
-            let g = gradients.at(k);
+            let g = gradients.weights(k);
             let west = k + 4 - start;
             let east = west + 1;
             x[k + 4] = direct_mean(

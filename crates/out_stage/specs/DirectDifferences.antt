@@ -6,12 +6,12 @@ use Rattle.std.proofs.Math.Path.{ap}
 use Rattle.std.proofs.Math.Nat.{le_trans}
 use Rattle.std.proofs.Math.IntN.{sub_ℕ}
 use Rattle.toolkit.specs.Orders.{to_naturals}
-use Rattle.frame.specs.Sites.{Frame, Colour, colour, around}
+use Rattle.frame.specs.Sites.{Frame, highest_sample, Colour, colour, around}
 use Rattle.frame.specs.Colours.{trade}
 use Rattle.method.specs.Gradients.{FourDirections, mosaic, around_in, gradients_at}
 use Rattle.method.specs.Four.{sizes}
 use Rattle.method.proofs.ColourLaws.{directions_path}
-use Rattle.method.specs.Planes.{weighted_mean, straight, chroma_site_difference, colour_difference}
+use Rattle.method.specs.Planes.{straight_gradients, mean_under, straight, chroma_site_difference, colour_difference}
 use Rattle.method.specs.Sizes.{AtMost}
 use Rattle.method.proofs.Sizes.{around_size, final_difference_size, chroma_site_difference_size}
 use Rattle.positions.specs.Taken.{Taken}
@@ -25,11 +25,11 @@ use Rattle.out_stage.specs.SiteOutputs.{mean_difference}
 -- ---- sizes
 module _ (f : Frame) (t : Taken f) (i j : ℕ) (hi : i < f.height) (hj : j < f.width) where
   pub finals_size : nat_abs (finals f i j) ≤ 4096
-  unfolding finals
+  unfolding finals highest_sample
   finals_size = le_trans (final_difference_size f t.tall t.wide t.ranged i j hi hj) (lit≤ tt)
 
   pub others_size : nat_abs (others f i j) ≤ 4096
-  unfolding others
+  unfolding others highest_sample
   others_size = le_trans (chroma_site_difference_size f t.tall t.wide t.ranged _ i j hi hj) (lit≤ tt)
 
 -- ---- the entries beside green site k in a half row that starts at column c
@@ -84,7 +84,7 @@ module _ (f : Frame) (t : Taken f) (c : Colour) (q q' : ℕ → ℕ → ℤ) (i 
       (off _ _ (off_colour f.height f.width f.phase i j t.tall t.wide green_site (pos 1) refl))
       (off _ _ (off_colour f.height f.width f.phase i j t.tall t.wide green_site (neg_ℤ (pos 1)) refl))
 
-  pub mean_beside : weighted_mean (four_beside f q q' i j) (gradients_at (mosaic f) i j) ≡ colour_difference (mosaic f) c i j
+  pub mean_beside : mean_under straight_gradients (gradients_at (mosaic f) i j) (four_beside f q q' i j) ≡ colour_difference (mosaic f) c i j
   unfolding mosaic
-  mean_beside = ap (λ (v : FourDirections ℤ). weighted_mean v (gradients_at (mosaic f) i j)) beside_straight
+  mean_beside = ap (mean_under straight_gradients (gradients_at (mosaic f) i j)) beside_straight
       ∙ mean_difference (mosaic f) c i j (second_half_green f.phase i j green_site)

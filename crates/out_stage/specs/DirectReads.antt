@@ -14,7 +14,7 @@ use Rattle.frame.proofs.Reflection.{reflect_here, reflect_lt}
 use Rattle.method.specs.Gradients.{FourDirections, mosaic, gradients_at}
 use Rattle.method.specs.Four.{directions, sizes, listed}
 use Rattle.method.proofs.ColourLaws.{directions_path}
-use Rattle.method.specs.Planes.{weighted_mean, colour_difference}
+use Rattle.method.specs.Planes.{straight_gradients, mean_under, colour_difference}
 use Rattle.method.specs.Sizes.{AtMost}
 use Rattle.method.proofs.Sizes.{listed_naturals}
 use Rattle.positions.specs.Taken.{Taken}
@@ -171,7 +171,7 @@ module _ (shape : Shape) (zs : List ℕ) (i : ℕ) (p : Places) (placed : Placed
       unfolding finals mosaic
       own_means k l =
           let f = frame shape zs in
-          ap₂ weighted_mean (own_beside k l) (ap (λ (g : List ℤ). sizes (directions g)) (gradients_are k l))
+          ap₂ (mean_under straight_gradients) (ap (λ (g : List ℤ). sizes (directions g)) (gradients_are k l)) (own_beside k l)
           ∙ mean_beside f taken (row_colour shape.phase i) (finals f) (others f) i _ (green_column _ k (chroma_small shape.phase i))
           (λ a b e. own_difference (mosaic f) _ a b e) (λ a b e. other_difference f _ a b e)
 
@@ -181,7 +181,7 @@ module _ (shape : Shape) (zs : List ℕ) (i : ℕ) (p : Places) (placed : Placed
       unfolding finals mosaic
       other_means k l =
           let f = frame shape zs in
-          ap₂ weighted_mean (other_beside k l) (ap (λ (g : List ℤ). sizes (directions g)) (gradients_are k l))
+          ap₂ (mean_under straight_gradients) (ap (λ (g : List ℤ). sizes (directions g)) (gradients_are k l)) (other_beside k l)
           ∙ mean_beside f taken (trade (row_colour shape.phase i)) (others f) (finals f) i _ (green_column _ k (chroma_small shape.phase i))
           (λ a b e. other_difference f _ a b (e ∙ sym (trade_twice (row_colour shape.phase i)))) (λ a b e. own_difference (mosaic f) _ a b e)
 

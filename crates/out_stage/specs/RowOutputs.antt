@@ -5,7 +5,7 @@ use Rattle.std.proofs.Common.{◌∙◌, ap, arith, lit≤}
 use Rattle.std.proofs.Math.Nat.{le_trans}
 use Rattle.std.proofs.Math.IntN.{pos}
 use Rattle.toolkit.specs.Entries.{Entries}
-use Rattle.frame.specs.Sites.{Frame, Colour, red, green, blue, sample}
+use Rattle.frame.specs.Sites.{Frame, highest_sample, Colour, red, green, blue, sample}
 use Rattle.frame.specs.Colours.{trade, is_green}
 use Rattle.frame.proofs.Colours.{trade_twice}
 use Rattle.method.specs.Gradients.{mosaic}
@@ -127,10 +127,11 @@ module _ (f : Frame) (i at c n m : ℕ) (ec : c ≡ chroma_start f.phase i) (en 
   zg_half = samples_half f i at (1 - c) m reads.row (λ k l. rw ec (green_columns f i k t.wide (rw (← em) l))) sg
 
   sample_size : (j : ℕ) → nat_abs (measured j) ≤ 4096
-  unfolding sample
+  unfolding sample highest_sample
   sample_size j = le_trans (t.ranged _) (lit≤ tt)
 
   difference_size : (k : Colour) (j : ℕ) → j < f.width → nat_abs (difference k j) ≤ 4096
+  unfolding highest_sample
   difference_size k j h = le_trans (colour_difference_size f t.tall t.wide t.ranged k i j reads.inside h) (lit≤ tt)
 
   difference_bounded : (k : Colour) {row : List ℤ} → GreenHalf f i (colour_difference (mosaic f) k) row → Sized 4096 4 (m + 4) row

@@ -7,7 +7,7 @@ use Rattle.frame.specs.Colours.{trade, is_green}
 use Rattle.frame.proofs.Colours.{trade_twice}
 use Rattle.method.specs.Gradients.{Mosaic, mosaic, around_in, gradients_at}
 use Rattle.method.proofs.ColourLaws.{same_self}
-use Rattle.method.specs.Planes.{weighted_mean, straight, same, final_difference, chroma_site_difference, colour_difference, green_quarters, quarters, final_round, output}
+use Rattle.method.specs.Planes.{straight_gradients, mean_under, straight, same, final_difference, chroma_site_difference, colour_difference, green_quarters, quarters, final_round, output}
 use Rattle.records.specs.Quantities.{others}
 
 same_green : (c : Colour) → same c green ≡ is_green c
@@ -23,7 +23,7 @@ module _ (m : Mosaic) (c : Colour) (i j : ℕ) where
 
   -- at a green site
   pub mean_difference : m.colour_at i j ≡ green
-      → weighted_mean (straight 1 (around_in m (chroma_site_difference m c) i j)) (gradients_at m i j) ≡ colour_difference m c i j
+      → mean_under straight_gradients (gradients_at m i j) (straight 1 (around_in m (chroma_site_difference m c) i j)) ≡ colour_difference m c i j
   unfolding colour_difference
   mean_difference e = sym (rw e)
 

@@ -3,7 +3,7 @@
 use Rattle.std.specs.Prelude.{cond, List, [], ◌∷◌, ◌++◌, ℕ, zero, suc, ◌+◌, ◌*◌, ◌/◌, ◌%◌, ltb, ℤ, pos, nat_abs, length, get_or, Err, Ok}
 use Rattle.answers.specs.declared.Refusal.{Refusal}
 use Rattle.answers.specs.declared.Refusal.TheVariants.{BufferLength}
-use Rattle.frame.specs.Sites.{Frame, Colour, red, green, blue}
+use Rattle.frame.specs.Sites.{Frame, highest_sample, Colour, red, green, blue}
 use Rattle.answers.specs.Calls.{least_lengths, number_and_place, clamped, develop_answer, Answer}
 use Rattle.answers.specs.declared.Lengths.{Lengths}
 use Rattle.method.specs.Planes.{plane}
@@ -58,8 +58,8 @@ black_level = 0
 -- "develops, clamps and prints;" document 02, A4, "a program prints a developed frame through it in document 01's lines.": a plane that
 -- develop leaves, as it is printed
 unfoldable pub toned : Tone → List ℤ → List ℤ
-toned Clamped plane = clamped plane
-toned Curved plane = curved (clamped plane)
+toned Clamped plane = clamped highest_sample plane
+toned Curved plane = curved (clamped highest_sample plane)
 
 -- entry i·W + j of the plane of the colour c that develop leaves, as it is printed
 unfoldable pub toned_at : Tone → Frame → Colour → ℕ → ℕ → ℕ

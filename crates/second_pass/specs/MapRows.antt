@@ -10,6 +10,7 @@ use Rattle.toolkit.specs.Tests.{by_test, eqb_eq, eqb_ne}
 use Rattle.toolkit.specs.Writes.{Wrote, wrote_as}
 use Rattle.frame.specs.Sites.{Frame, Colour, red, green, blue, colour}
 use Rattle.frame.specs.Colours.{is_green}
+use Rattle.method.specs.Settings.{reach}
 use Rattle.method.specs.Gradients.{mosaic}
 use Rattle.method.specs.Green.{Direction, Outcome, equal, strong_across, strong_down, weak, outcome_at, second_pass_at}
 use Rattle.method.specs.Green.{Decision, decision_code, decided, chroma_decision_at, decision_of, decision_at, decision_entry}
@@ -38,7 +39,7 @@ chroma_stands green d e = absurd (true≢false e)
 chroma_stands blue d e = refl
 
 module _ (f : Frame) (i : ℕ) (diagonals verticals fh fv fd : List ℤ) (map codes : List ℕ) (lent : SecondLent f i diagonals verticals map)
-    (sums : Sums f 3 i fh fv fd) (formed : Entries 0 2048 0 (chroma_count f i) (code_entry fh fv fd (i * f.width) map) codes) where
+    (sums : Sums f reach i fh fv fd) (formed : Entries 0 2048 0 (chroma_count f i) (code_entry fh fv fd (i * f.width) map) codes) where
   abbrev start : ℕ
   start = chroma_start f.phase i
 

@@ -6,8 +6,9 @@ use native.Mathlib.Omega.{arith}
 use Rattle.std.specs.Int.Signed.{lt_z}
 use Rattle.toolkit.specs.Writes.{Wrote, wrote_as}
 use Rattle.frame.specs.Sites.{Frame, around}
+use Rattle.method.specs.Settings.{reach}
 use Rattle.method.specs.Gradients.{mosaic, exchanged}
-use Rattle.method.specs.Green.{Direction, horizontal, vertical, diagonal, reach, column_sum, horizontal_sum, vertical_sum, diagonal_sum}
+use Rattle.method.specs.Green.{Direction, horizontal, vertical, diagonal, column_sum, horizontal_sum, vertical_sum, diagonal_sum}
 use Rattle.method.specs.Green.{less_eight, least_sum, second_pass, second_pass_at, trial_difference}
 use Rattle.method.proofs.GreenLaws.{green_is_decided}
 use Rattle.method.specs.Planes.{green_difference}
@@ -16,7 +17,7 @@ use Rattle.positions.specs.HalfRows.{chroma_start, chroma_count, chroma_row, Hal
 use Rattle.positions.specs.HalfRowLaws.{chroma_small, count_column, chroma_count_is}
 use Rattle.records.specs.Quantities.{trials, greens}
 use Rattle.records.specs.Stages.{ChromaStored}
-use Rattle.sums.specs.Sums.{column_sum_to, Sums, SumsRead}
+use Rattle.sums.specs.Sums.{Sums, SumsRead}
 use Rattle.second_pass.specs.Picked.{picked, picked_entry}
 
 -- ---- the tests, as the code makes them
@@ -65,11 +66,11 @@ picked_is r a b c = by_tests (ltb a b && ltb a c) (ltb b a && ltb b c)
 
 -- the second pass takes the least of the three sums
 second_is : (f : Frame) (i j : ℕ) → second_pass_at (mosaic f) i j
-    ≡ least_sum (2 * column_sum_to reach (around f.height f.width (trials f horizontal) i j))
-    (2 * column_sum_to reach (exchanged (around f.height f.width (trials f vertical) i j)))
-    (column_sum_to reach (around f.height f.width (trials f diagonal) i j)
-    + column_sum_to reach (exchanged (around f.height f.width (trials f diagonal) i j)))
-unfolding trials second_pass_at second_pass horizontal_sum vertical_sum diagonal_sum column_sum column_sum_to mosaic
+    ≡ least_sum (2 * column_sum reach (around f.height f.width (trials f horizontal) i j))
+    (2 * column_sum reach (exchanged (around f.height f.width (trials f vertical) i j)))
+    (column_sum reach (around f.height f.width (trials f diagonal) i j)
+    + column_sum reach (exchanged (around f.height f.width (trials f diagonal) i j)))
+unfolding trials second_pass_at second_pass horizontal_sum vertical_sum diagonal_sum mosaic
 second_is f i j = refl
 
 -- D is the trial difference that it takes: where the site has its first-pass green, all three are equal to it
@@ -78,18 +79,17 @@ unfolding greens trials green_difference trial_difference
 green_is f i j = ap (λ (g : ℤ). less_eight g ((mosaic f).sample_at i j)) (green_is_decided (mosaic f) i j)
 
 -- what is picked by the sums of a row is that of the direction that the second pass takes
-pub picked_as : {A : Type 0} (f : Frame) (i : ℕ) (fh fv fd : List ℤ) → Sums f 3 i fh fv fd → (r : Direction → A) (x : ℕ)
+pub picked_as : {A : Type 0} (f : Frame) (i : ℕ) (fh fv fd : List ℤ) → Sums f reach i fh fv fd → (r : Direction → A) (x : ℕ)
     → 4 ≤ x → x < chroma_count f i + 4
     → picked (pos 2 *ℤ get_or fh x (pos 0)) (pos 2 *ℤ get_or fv x (pos 0)) (get_or fd x (pos 0)) (r horizontal) (r vertical) (r diagonal)
     ≡ r (second_pass_at (mosaic f) i (chroma_start f.phase i + 2 * (x - 4)))
-unfolding reach
 picked_as f i fh fv fd sums r x a b =
     picked_read (ap (λ (z : ℤ). pos 2 *ℤ z) (sums.across.at x a b)) (ap (λ (z : ℤ). pos 2 *ℤ z) (sums.down.at x a b)) (sums.both.at x a b)
     refl refl refl
     ∙ (picked_is r _ _ _ ∙ ap r (sym (second_is f i (chroma_start f.phase i + 2 * (x - 4)))))
 
 module _ (f : Frame) (i : ℕ) (diagonals verticals rh rv rd fh fv fd : List ℤ) (read : SumsRead f i diagonals verticals rh rv rd)
-    (sums : Sums f 3 i fh fv fd) where
+    (sums : Sums f reach i fh fv fd) where
   -- the difference of the site itself
   own : {lo hi : ℕ} (k : Direction) (row : List ℤ) (x : ℕ) → Half f.width (chroma_start f.phase i) lo hi (trials f k i) row → lo ≤ x → x < hi
       → 4 ≤ x → x < chroma_count f i + 4 → get_or row x (pos 0) ≡ trials f k i (chroma_start f.phase i + 2 * (x - 4))

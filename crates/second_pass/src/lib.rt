@@ -58,6 +58,9 @@ enum Choice {
     ToMean = 6,
 }
 
+// The sums have the steps t from 1 to this one.
+const REACH: usize = 3;
+
 // Across or down only if its sum is below both others.
 #[tactic(auto, unfolding(crate::specs::Picked::picked))]
 fn resolution(fh: i32, fv: i32, fd: i32) -> Choice
@@ -207,7 +210,7 @@ pub fn second_line(
         count,
     };
     trial_rows(planes, start, trials);
-    sums::sum_row(planes, 3, trials, sums);
+    sums::sum_row(planes, REACH, trials, sums);
     second_row(trials, sums, map, out, codes, i * w, count);
     map_row(codes, map, i * w, start, w);
 }

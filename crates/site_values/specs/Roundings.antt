@@ -5,7 +5,8 @@ use Rattle.std.specs.Int.Signed.{shr_z}
 use Rattle.toolkit.specs.Differences.{as_difference}
 use Rattle.toolkit.specs.Orders.{to_naturals}
 use Rattle.toolkit.specs.Rounding.{floor_div, floor_low, floor_high, round_half_up, round_is}
-use Rattle.method.specs.Planes.{inner_round, fusion_share, fused}
+use Rattle.method.specs.Settings.{fusion_share}
+use Rattle.method.specs.Planes.{inner_round, fused}
 
 -- ---- round(q/4) is ⌊(q + 2)/4⌋
 pub quarter : (q : ℤ) → shr_z (q +ℤ pos 2) 4 ≡ round_half_up q 4
@@ -34,7 +35,7 @@ two_hundredth n u e =
         → (pos 2 *ℤ n +ℤ pos 200) <ℤ (pos 400 *ℤ (pos q -ℤ pos 16384) +ℤ pos 400)
     high n q r = rw (as_difference n) (simp to_naturals (omega arith))
 
-pub fused_is : (d m : ℤ) (u : ℕ) → pos u ≡ pos 33 *ℤ d +ℤ pos 67 *ℤ m +ℤ pos 3276800 → pos ((u + 100) / 200) -ℤ pos 16384 ≡ fused d m
+pub fused_is : (d m : ℤ) (u : ℕ) → pos u ≡ pos 33 *ℤ d +ℤ pos 67 *ℤ m +ℤ pos 3276800 → pos ((u + 100) / 200) -ℤ pos 16384 ≡ fused fusion_share d m
 unfolding fused inner_round fusion_share
 fused_is d m u e = two_hundredth (pos 33 *ℤ d +ℤ pos 67 *ℤ m) u e
 

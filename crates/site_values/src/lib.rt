@@ -2,6 +2,7 @@
 #![tactic(auto)]
 
 ghost use Rattle.std.specs.Prelude.{◌≡◌, ◌≤◌, pos, nat_abs, ◌+ℤ◌, ◌-ℤ◌, ◌*ℤ◌};
+ghost use Rattle.method.specs.Settings.{fusion_share};
 ghost use Rattle.method.specs.Planes.{corner_gradients, fused, final_round};
 ghost use Rattle.method.specs.Four.{directions, sizes, listed};
 ghost use Rattle.method.specs.Sizes.{Naturals};
@@ -22,18 +23,21 @@ fn lifted(x: i32) -> u32
     (x + 32768) as u32
 }
 
-// 33·D + 67·M, lifted by 100·32,768.
+// The share of D in the final difference, in hundredths.
+const FUSION_SHARE: u32 = 33;
+
+// Both shares, 33·D + 67·M, lifted by 100·32,768.
 fn shares(d: i32, m: i32) -> u32
     requires { (nat_abs d ≤ 32767) × (nat_abs m ≤ 32767) }
     ensures { (pos result ≡ pos 33 *ℤ d +ℤ pos 67 *ℤ m +ℤ pos 3276800) × (result ≤ 6553600) }
 {
-    33 * lifted(d) + 67 * lifted(m)
+    FUSION_SHARE * lifted(d) + (100 - FUSION_SHARE) * lifted(m)
 }
 
 // The final difference in quarters, of D and M in eighths. It is lifted, so that the division is of unsigned numbers.
 pub fn fuse(d: i32, m: i32) -> i32
     requires { (nat_abs d ≤ 32767) × (nat_abs m ≤ 32767) }
-    ensures { result ≡ fused d m }
+    ensures { result ≡ fused fusion_share d m }
 {
     ((shares(d, m) + 100) / 200) as i32 - 16384
 }

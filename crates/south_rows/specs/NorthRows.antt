@@ -6,7 +6,7 @@ use Rattle.std.proofs.Math.IntN.{pos, sub_ℕ}
 use Rattle.toolkit.specs.Orders.{to_naturals}
 use Rattle.toolkit.specs.Entries.{Entries}
 use Rattle.toolkit.specs.Writes.{Wrote, wrote_then, wrote_as}
-use Rattle.frame.specs.Sites.{Frame, reflect}
+use Rattle.frame.specs.Sites.{Frame, highest_sample, reflect}
 use Rattle.method.specs.Gradients.{mosaic, samples_around, exchanged, gradients, gradients_at, west_gradient}
 use Rattle.positions.specs.Taken.{Taken}
 use Rattle.positions.specs.HalfRows.{chroma_start, half_count, half_column, in_halves}
@@ -28,6 +28,7 @@ row_of : (x n : ℕ) → sub_ℕ (x + n) 4 ≡ pos x +ℤ (neg_ℤ (pos 2) +ℤ 
 row_of x n = simp to_naturals (omega arith)
 
 pub seven_small : {f : Frame} {x : ℕ} {at rows : List ℕ} → Taken f → Seven f x at rows → SmallRows (f.width + 16) at rows
+unfolding highest_sample
 seven_small {f} {x} {at} {rows} t s = record {
   each = λ p k a b. (
     omega (arith, s.inside p a, t.narrow),

@@ -4,7 +4,7 @@ use Rattle.std.proofs.Common.{sym, ◌∙◌, ap, arith}
 use Rattle.toolkit.specs.Differences.{as_difference}
 use Rattle.toolkit.specs.Orders.{to_naturals}
 use Rattle.toolkit.specs.Entries.{Entries}
-use Rattle.frame.specs.Sites.{Frame}
+use Rattle.frame.specs.Sites.{Frame, highest_sample}
 use Rattle.method.specs.Gradients.{apart}
 use Rattle.method.specs.Green.{Direction}
 use Rattle.method.proofs.Sizes.{trial_difference_size}
@@ -30,7 +30,7 @@ entries_sized e l = record { each = λ x a b. size_read _ (e.at x a b) (l x a b)
 
 module _ (f : Frame) (t : Taken f) (k : Direction) where
   trial_most : (i j : ℕ) → i < f.height → j < f.width → nat_abs (trials f k i j) ≤ 32760
-  unfolding trials
+  unfolding trials highest_sample
   trial_most i j a b = omega (arith, trial_difference_size f t.tall t.wide t.ranged k i j a b)
 
   -- a half row of r_k

@@ -11,11 +11,11 @@ use Rattle.toolkit.specs.Entries.{Entries, entries_as}
 use Rattle.frame.specs.Sites.{Frame, Around, reflect}
 use Rattle.frame.proofs.Reflection.{reflect_here}
 use Rattle.method.specs.Gradients.{apart, exchanged}
-use Rattle.method.specs.Green.{sum_about}
+use Rattle.method.specs.Green.{sum_about, column_sum}
 use Rattle.positions.specs.HalfRows.{chroma_start, chroma_count, Half}
 use Rattle.positions.specs.Taken.{Taken}
 use Rattle.half_rows.specs.Beside.{half_around, row_near_even}
-use Rattle.sums.specs.Sums.{column_sum_to, with_columns, with_rows, around_entry, HeldNear, RowNear}
+use Rattle.sums.specs.Sums.{with_columns, with_rows, around_entry, HeldNear, RowNear}
 use Rattle.sums.specs.Nearby.{near_above, near_below}
 
 -- ---- the entries of a step
@@ -42,17 +42,17 @@ apart_self : (x : ℤ) → apart x x ≡ 0
 unfolding apart
 apart_self x = rw (as_difference x) (simp to_naturals (omega arith))
 
-pub sum_none : (r : Around ℤ) → column_sum_to 0 r ≡ 0
-unfolding column_sum_to sum_about
+pub sum_none : (r : Around ℤ) → column_sum 0 r ≡ 0
+unfolding column_sum sum_about
 sum_none r = apart_self (r (pos 0) (pos 0))
 
 sum_next : (r : Around ℤ) (n : ℕ) (x w e : ℤ) → x ≡ r (pos 0) (pos 0) → w ≡ r (pos 0) (pos 2 *ℤ negsuc n)
-    → e ≡ r (pos 0) (pos 2 *ℤ pos (suc n)) → column_sum_to n r + apart x w + apart x e ≡ column_sum_to (suc n) r
-unfolding column_sum_to sum_about
+    → e ≡ r (pos 0) (pos 2 *ℤ pos (suc n)) → column_sum n r + apart x w + apart x e ≡ column_sum (suc n) r
+unfolding column_sum sum_about
 sum_next r n x w e p a b = rw (p, a, b) (omega arith)
 
 -- a sum s of which part is the sum about a site
-added : (r : Around ℤ) (n s t d : ℕ) (o x w e : ℤ) → o ≡ pos s → s ≡ column_sum_to n r + d → t ≡ column_sum_to (suc n) r + d
+added : (r : Around ℤ) (n s t d : ℕ) (o x w e : ℤ) → o ≡ pos s → s ≡ column_sum n r + d → t ≡ column_sum (suc n) r + d
     → x ≡ r (pos 0) (pos 0) → w ≡ r (pos 0) (pos 2 *ℤ negsuc n) → e ≡ r (pos 0) (pos 2 *ℤ pos (suc n))
     → o +ℤ pos (apart x w) +ℤ pos (apart x e) ≡ pos t
 added r n s t d o x w e p a b q u v = rw p (ap pos (omega (arith, sum_next r n x w e q u v)))
@@ -70,7 +70,7 @@ module _ (f : Frame) (taken : Taken f) (i : ℕ) (inside : i < f.height) (q : �
 
   -- along the row
   pub columns_next : (row : List ℤ) (old : ℕ → ℤ) (s t d : ℕ) → Half f.width start 0 (chroma_count f i + 8) (q i) row → old x ≡ pos s
-      → s ≡ column_sum_to n (around_entry f q i x) + d → t ≡ column_sum_to (suc n) (around_entry f q i x) + d
+      → s ≡ column_sum n (around_entry f q i x) + d → t ≡ column_sum (suc n) (around_entry f q i x) + d
       → with_columns row (suc n) old x ≡ pos t
   unfolding with_columns
   columns_next row old s t d h o p e = added (around_entry f q i x) n s t d _ _ _ _ o p e
@@ -83,7 +83,7 @@ module _ (f : Frame) (taken : Taken f) (i : ℕ) (inside : i < f.height) (q : �
       → Half f.width start 4 (chroma_count f i + 4) (q i) row
       → HeldNear f i q plane → above ≡ reflect f.height (sub_ℕ i (2 * suc n)) → below ≡ reflect f.height (pos (i + 2 * suc n))
       → up ≡ above * f.width → down ≡ below * f.width → old x ≡ pos s
-      → s ≡ column_sum_to n (exchanged (around_entry f q i x)) + d → t ≡ column_sum_to (suc n) (exchanged (around_entry f q i x)) + d
+      → s ≡ column_sum n (exchanged (around_entry f q i x)) + d → t ≡ column_sum (suc n) (exchanged (around_entry f q i x)) + d
       → with_rows row plane up down old x ≡ pos t
   unfolding with_rows
   rows_next row plane old up down above below s t d h held ea eb eu ed o p e =

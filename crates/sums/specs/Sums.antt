@@ -1,18 +1,14 @@
 -- The sums FH, FV and FD of the red and blue sites of a row, as half rows. Definitions alone. Assumes nothing.
-use Rattle.std.specs.Prelude.{◌≡◌, List, ℕ, ◌+◌, ◌*◌, ◌-◌, ◌%◌, ◌<◌, ◌≤◌, min, ℤ, pos, ◌+ℤ◌, ◌*ℤ◌, get_or}
+use Rattle.std.specs.Prelude.{◌≡◌, List, ℕ, ◌+◌, ◌*◌, ◌-◌, ◌%◌, ◌<◌, ◌≤◌, min, ℤ, pos, ◌+ℤ◌, get_or}
 use Rattle.toolkit.specs.Entries.{Entries}
 use Rattle.frame.specs.Sites.{Frame, frame, Around, around}
 use Rattle.frame.specs.declared.Shape.{Shape}
 use Rattle.method.specs.Gradients.{apart, exchanged}
-use Rattle.method.specs.Green.{horizontal, vertical, diagonal, sum_about}
+use Rattle.method.specs.Green.{horizontal, vertical, diagonal, column_sum}
 use Rattle.positions.specs.HalfRows.{chroma_start, chroma_count, Half}
 use Rattle.records.specs.Quantities.{trials}
 use Rattle.records.specs.Stages.{ChromaHeld, SecondReads}
 use Rattle.half_rows.specs.Sources.{Sized}
-
--- the sum of |r here − r at 2t columns off|, t from −n to n: `column_sum` with n for its reach
-unfoldable pub column_sum_to : ℕ → Around ℤ → ℕ
-column_sum_to n r = sum_about n (λ t. apart (r (pos 0) (pos 0)) (r (pos 0) (pos 2 *ℤ t)))
 
 -- the entries of a half row
 abbrev pub entries_of : List ℤ → ℕ → ℤ
@@ -51,12 +47,12 @@ pub record RowNear (H i r : ℕ) : Type 0 where
 -- half rows of the three sums, formed with the reach n; FH and FV are twice the first two
 pub record Sums (f : Frame) (n i : ℕ) (fh fv fd : List ℤ) : Type 0 where
   pub across : Entries (pos 0) 2064 4 (chroma_count f i + 4)
-      (λ (x : ℕ). pos (column_sum_to n (around_entry f (trials f horizontal) i x))) fh
+      (λ (x : ℕ). pos (column_sum n (around_entry f (trials f horizontal) i x))) fh
   pub down : Entries (pos 0) 2064 4 (chroma_count f i + 4)
-      (λ (x : ℕ). pos (column_sum_to n (exchanged (around_entry f (trials f vertical) i x)))) fv
+      (λ (x : ℕ). pos (column_sum n (exchanged (around_entry f (trials f vertical) i x)))) fv
   pub both : Entries (pos 0) 2064 4 (chroma_count f i + 4)
-      (λ (x : ℕ). pos (column_sum_to n (around_entry f (trials f diagonal) i x)
-      + column_sum_to n (exchanged (around_entry f (trials f diagonal) i x)))) fd
+      (λ (x : ℕ). pos (column_sum n (around_entry f (trials f diagonal) i x)
+      + column_sum n (exchanged (around_entry f (trials f diagonal) i x)))) fd
 
 -- what the sums of row i are formed from: the planes, and the half rows of r_H and r_D between four reflected entries on each side,
 -- that of r_V without

@@ -6,11 +6,11 @@ use Rattle.toolkit.specs.Entries.{Entries, entries_as}
 use Rattle.frame.specs.Sites.{Frame, frame, reflect}
 use Rattle.frame.specs.declared.Shape.{Shape}
 use Rattle.method.specs.Gradients.{exchanged}
-use Rattle.method.specs.Green.{horizontal, vertical, diagonal}
+use Rattle.method.specs.Green.{horizontal, vertical, diagonal, column_sum}
 use Rattle.positions.specs.HalfRowLaws.{chroma_count_is}
 use Rattle.positions.specs.HalfRows.{chroma_start, half_count, chroma_count}
 use Rattle.records.specs.Quantities.{trials}
-use Rattle.sums.specs.Sums.{column_sum_to, entries_of, with_columns, with_rows, with_both, around_entry, Sums, SumsRead, Widens}
+use Rattle.sums.specs.Sums.{entries_of, with_columns, with_rows, with_both, around_entry, Sums, SumsRead, Widens}
 use Rattle.sums.specs.Steps.{middle, sum_none, columns_next, rows_next}
 
 -- what the code leaves of the three half rows of sums in step t
@@ -44,10 +44,10 @@ module _ (f : Frame) (i n count up down above below : ℕ) (diagonals verticals 
         read.down_row p.verticals_held ea eb eu ed (old.down.at x a (omega arith)) (none_beside _) (none_beside _));
     both = entries_as new.both (omega arith) (omega arith) (λ x a b.
         rows_next f p.taken i p.inside (trials f diagonal) n few x a (omega arith) rd diagonals (with_columns rd (suc n) (entries_of fd))
-        up down above below _ _ (column_sum_to (suc n) (around_entry f (trials f diagonal) i x)) (middle (chroma_count f i) read.both_row)
+        up down above below _ _ (column_sum (suc n) (around_entry f (trials f diagonal) i x)) (middle (chroma_count f i) read.both_row)
         p.diagonals_held ea eb eu ed
         (columns_next f p.taken i p.inside (trials f diagonal) n few x a (omega arith) rd (entries_of fd) _ _
-        (column_sum_to n (exchanged (around_entry f (trials f diagonal) i x))) read.both_row (old.both.at x a (omega arith)) refl refl)
+        (column_sum n (exchanged (around_entry f (trials f diagonal) i x))) read.both_row (old.both.at x a (omega arith)) refl refl)
         (omega arith) (omega arith));
   }
 

@@ -4,6 +4,7 @@ use mathlib.Core.Path.{refl, ◌∙◌, ap}
 use native.Mathlib.Omega.{arith}
 use Rattle.toolkit.specs.Entries.{entries_as}
 use Rattle.frame.specs.Sites.{frame}
+use Rattle.method.specs.Settings.{reach}
 use Rattle.positions.specs.HalfRows.{half_count}
 use Rattle.sums.specs.Widening.{count_is}
 use Rattle.second_pass.specs.Forming.{row_here}
@@ -22,6 +23,7 @@ second_row-requires-clause-count_bound c =
     (c.of-start.ensures.count.2, omega (arith, p, e), c.sum_row.ensures.sums_room)
 
 pub returns : goal.returns
+unfolding reach
 returns c =
     let sums = c.sum_row.ensures in
     let rows = c.trial_rows.ensures in
