@@ -13,7 +13,7 @@ ghost use Rattle.differences.specs.Rows.{straight_read, corners_read, straight_m
 ghost use Rattle.half_rows.specs.Sources.{Sized};
 
 use half_rows::{Scratch, SiteGradients};
-use positions::{Halves, Row};
+use positions::{DIAGONAL_OFF, ENHANCE_OFF, Halves, Row};
 
 // The half rows of both stages stand in scratch, N of the row in north. enhance_line has D of the row in own and M in other; diagonal_line has
 // the final differences of the row above in own, those of the row below in other, and the means of their corners in trials.across.
@@ -98,8 +98,8 @@ pub fn enhance_line(
     let h = row.shape.height;
     let i = row.index;
     let Halves { start, count, .. } = Halves::of(row.shape, i);
-    let below = positions::row_below(h, i, 2, 2) * w;
-    let above = positions::row_above(h, i, 2, 2) * w;
+    let below = positions::row_below::<ENHANCE_OFF>(h, i, 2) * w;
+    let above = positions::row_above::<ENHANCE_OFF>(h, i, 2) * w;
     let n = &mut scratch.north;
     let l = &mut scratch.own;
     let m = &mut scratch.other;
@@ -130,8 +130,8 @@ pub fn diagonal_line(tops: &[i32; 8224], row: Row, work: &mut [i32], scratch: &m
     let h = row.shape.height;
     let i = row.index;
     let Halves { start, count, rest } = Halves::of(row.shape, i);
-    let above = records::final_at(row.at(positions::row_above(h, i, 1, 1)));
-    let below = records::final_at(row.at(positions::row_below(h, i, 1, 1)));
+    let above = records::final_at(row.at(positions::row_above::<DIAGONAL_OFF>(h, i, 1)));
+    let below = records::final_at(row.at(positions::row_below::<DIAGONAL_OFF>(h, i, 1)));
     let n = &mut scratch.north;
     let up = &mut scratch.own;
     let down = &mut scratch.other;

@@ -7,13 +7,13 @@ use Rattle.std.proofs.Math.Path.{ap}
 use native.Mathlib.Omega.{arith}
 use Rattle.std.proofs.Math.IntN.{pos}
 use contract.Lifetimes.{Lfts}
-use borrow.Fn.World.{ArgsD, ResD}
 use borrow.Fn.Kinds.{ended_of}
 use denote.Triple.Clauses.{AtExit}
-use Rattle.positions.specs.contracts.row_near as row_near
+use mir.Val.{Fits}
+use mir.Syntax.{w64}
 use Rattle.positions.proofs.row_near.Kinds as row_near_kinds
 use Rattle.positions.proofs.row_near.Reads as row_near_contract
-use Rattle.positions.specs.contracts.edge_row as edge_row
+use Rattle.positions.specs.declared.TheConstants.{OUT_OFF, DIAGONAL_OFF, ENHANCE_OFF, SECOND_OFF, FIRST_OFF}
 use Rattle.positions.proofs.edge_row.Reads as edge_row_contract
 use Rattle.toolkit.specs.Differences.{as_difference}
 use Rattle.toolkit.specs.Orders.{to_naturals}
@@ -26,8 +26,8 @@ use Rattle.method.specs.Planes.{less_black, number_at, entry_at}
 use Rattle.method.proofs.Sizes.{usual_allowed}
 use Rattle.method.proofs.PlaneLaws.{number_is_output, entry_is_code}
 use Rattle.inner_sites.specs.Distances.{gradient_distance, second_pass_distance, enhancement_distance, corner_distance, neighbour_distance, differences_off, finals_off, greens_off, trials_off, reading_distance}
-use Rattle.inner_sites.proofs.StepDistances.{within_margin}
-use Rattle.inner_sites.specs.FarSites.{FarFromEdges, Near, ReadAsWritten, StepAsWritten, StepsAsWritten, SameWindow}
+use Rattle.inner_sites.proofs.StepDistances.{distances_in_figures, within_margin}
+use Rattle.inner_sites.specs.FarSites.{FarFromEdges, Near, ReadAsWritten, StepAsWritten, StepsAsWritten, StageDistances, SameWindow}
 use Rattle.inner_sites.proofs.Surroundings.{written_near, InnerSite, Alike}
 use Rattle.inner_sites.proofs.Stages.{output_alike, entry_alike}
 
@@ -126,17 +126,26 @@ module _ (f f' : Frame) (i j i' j' : ℕ) (far : FarFromEdges f i j) (far' : Far
       entry_is_code f i j (omega (arith, far.rows_below)) (omega (arith, far.columns_east)) ∙ entry_alike _ _ _ _ _ _ window_alike
       ∙ sym (entry_is_code f' i' j' (omega (arith, far'.rows_below)) (omega (arith, far'.columns_east)))
 
--- ---- the row numbers of the code: `a` holds what a call is given, h, x, down, up and off, in this order. With a row of its own, or one that
--- it reads, a stage hands over 0, `differences_off`, `finals_off` or `greens_off`; first hands over the row two below with `trials_off` + 2
+-- ---- the row numbers of the code, by the contracts of positions `row_near` and `edge_row` at a distance off, a constant of the call
 
--- where row x is read for a row i that is far from both edges, off rows away or less, `row_near` answers by adding and subtracting
-pub rows_by_adding : (κs : Lfts 0) (a : ArgsD row_near.signature κs) (r : ResD row_near.signature κs)
-    (s : AtExit (ended_of 0 row_near_kinds.ps row_near_kinds.r) κs) → row_near_contract.Learnt κs a r s
-    → (i : ℕ) → Inner a.0 0 i → Near a.1.1.1.1.0 i a.1.0
-    → r ≡ a.1.0 + a.1.1.0 - a.1.1.1.0
-rows_by_adding κs a r s learnt i inner near = learnt.1 (inner_off _ _ inner near)
+-- the constants by which the stages call them: how far from the row that a stage hands over the site may stand for which it reads there.
+-- First hands over the row two below its own
+pub stage_distances : StageDistances OUT_OFF DIAGONAL_OFF ENHANCE_OFF SECOND_OFF FIRST_OFF
+stage_distances =
+    let figures = distances_in_figures in record {
+      out_reads = refl;
+      diagonal_reads = omega arith;
+      enhance_reads = omega arith;
+      second_reads = omega arith;
+      first_reads = omega arith;
+    }
 
--- and `edge_row`, the one function of rows that reflects, is never asked for it
-pub never_reflected : (κs : Lfts 0) (a : ArgsD edge_row.signature κs) → edge_row_contract.Asked κs a
-    → (i : ℕ) → Inner a.0 0 i → ¬ (Near a.1.1.1.1.0 i a.1.0)
-never_reflected κs a asked i inner near = asked.4 (inner_off _ _ inner near)
+module _ (off : ℕ) (fits : Fits w64 off) (κs : Lfts 1) (h x down up : ℕ) where
+  -- where row x is read for a row i that is far from both edges, off rows away or less, `row_near` answers by adding and subtracting
+  pub rows_by_adding : (r : ℕ) (s : AtExit (ended_of 1 (row_near_kinds.ps off fits) (row_near_kinds.r off fits)) κs)
+      → row_near_contract.Learnt off fits κs (h, (x, (down, (up, tt)))) r s → (i : ℕ) → Inner h 0 i → Near off i x → r ≡ x + down - up
+  rows_by_adding r s learnt i inner near = learnt.1 (inner_off _ _ inner near)
+
+  -- and `edge_row`, the one function of rows that reflects, is never asked for it
+  pub never_reflected : edge_row_contract.Asked off fits κs (h, (x, (down, (up, tt)))) → (i : ℕ) → Inner h 0 i → ¬ (Near off i x)
+  never_reflected asked i inner near = asked.1.4 (inner_off _ _ inner near)

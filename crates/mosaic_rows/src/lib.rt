@@ -10,6 +10,7 @@ ghost use Rattle.positions.specs.Rings.{place_in_ring, Round};
 ghost use Rattle.mosaic_rows.specs.LoadedRows.{RowStored, NearRows, near_entry, near_entries};
 
 use frame::Shape;
+use positions::FIRST_OFF;
 use std::array;
 
 // The loaded rows, and a at their entries. Each is one array and no array of rows: the definitions of specs/ tell the ring as one list. They are
@@ -74,7 +75,7 @@ fn near_row(h: usize, x: usize, p: usize, base: usize) -> usize
     requires near_rows { NearRows h x base }
     ensures { result ≡ near_entry h x p }
 {
-    row_at(positions::row_near(h, x, p, 4, 12), base)
+    row_at(positions::row_near::<FIRST_OFF>(h, x, p, 4), base)
 }
 
 // Where the rows x − 4 to x + 2 stand, reflected.

@@ -14,7 +14,7 @@ ghost use Rattle.out_rows.specs.Woven.{woven};
 ghost use Rattle.out_rows.specs.RowPlaces.{RowOf, Placed};
 
 use half_rows::SiteGradients;
-use positions::{Halves, Row};
+use positions::{Halves, OUT_OFF, Row};
 
 // Where the differences of a row start in work: the final ones, and those of the other colour.
 #[derive(Clone, Copy)]
@@ -67,8 +67,8 @@ pub fn row_places(row: Row) -> PlacedRow
     let h = row.shape.height;
     let i = row.index;
     let Halves { start, count, rest } = Halves::of(row.shape, i);
-    let below = row.at(positions::row_below(h, i, 1, 0));
-    let above = row.at(positions::row_above(h, i, 1, 0));
+    let below = row.at(positions::row_below::<OUT_OFF>(h, i, 1));
+    let above = row.at(positions::row_above::<OUT_OFF>(h, i, 1));
     let places = Places {
         start,
         count,

@@ -12,6 +12,7 @@ ghost use Rattle.sums.specs.Sums.{entries_of, with_columns, with_rows, SumsRead,
 
 use frame::Shape;
 use half_rows::ThreeWays;
+use positions::SECOND_OFF;
 
 // The planes of r_D and r_V of a frame, a row of it, and how many red and blue sites the row has.
 #[derive(Clone, Copy)]
@@ -87,8 +88,8 @@ fn add_step(planes: TrialPlanes<'_>, t: usize, trials: &ThreeWays, sums: &mut Th
         index,
         count,
     } = planes;
-    let up = positions::row_above(shape.height, index, 2 * t, 4) * shape.width;
-    let down = positions::row_below(shape.height, index, 2 * t, 4) * shape.width;
+    let up = positions::row_above::<SECOND_OFF>(shape.height, index, 2 * t) * shape.width;
+    let down = positions::row_below::<SECOND_OFF>(shape.height, index, 2 * t) * shape.width;
     let across = &mut sums.across;
     let vertical = &mut sums.vertical;
     let diagonal = &mut sums.diagonal;
