@@ -1,6 +1,6 @@
 -- What the calls leave once they have answered that nothing is refused. Assumes nothing.
 use Rattle.std.specs.Prelude.{◌≡◌, List, ℕ, ℤ}
-use Rattle.frame.specs.Sites.{Frame, Colour, red, green, blue}
+use Rattle.frame.specs.Sites.{Frame, highest_sample, Colour, red, green, blue}
 use Rattle.answers.specs.Calls.{clamped, no_refusal}
 use Rattle.method.specs.Green.{decision_map}
 use Rattle.method.specs.Planes.{plane}
@@ -29,7 +29,7 @@ module _ {f : Frame} {b : ℕ} {before left : Buffers} (call : DevelopLeaves f b
   }
 
 module _ {numbers before left : List ℤ} where
-  pub clamped_plane : ClampLeaves numbers before no_refusal left → left ≡ clamped numbers
+  pub clamped_plane : ClampLeaves numbers before no_refusal left → left ≡ clamped highest_sample numbers
   clamped_plane call = call.plane_left
 
   pub curved_plane : CurveLeaves numbers before no_refusal left → left ≡ curved numbers
