@@ -12,7 +12,7 @@ ghost use Rattle.calls.specs.WhatCallsLeave.{DevelopLeaves};
 ghost use Rattle.develop.specs.Ready.{Ready};
 
 use answers::{Answer, Lengths, Refusal};
-use frame::Shape;
+use frame::{BlackLevel, Shape};
 
 // Whether three planes and the map have `count` entries each, and the work buffer 4·count or more.
 #[tactic(auto, unfolding(answers::specs::Calls::lengths_fit))]
@@ -55,7 +55,7 @@ fn judge(shape: Shape, black: usize, mosaic: &[u16], lengths: Lengths) -> Answer
 // Fills the three planes and the map. The sweep is lent 4·W·H entries of the work buffer.
 fn run(
     shape: Shape,
-    black: usize,
+    black: BlackLevel,
     mosaic: &[u16],
     red: &mut [i32],
     green: &mut [i32],
@@ -63,17 +63,17 @@ fn run(
     map: &mut [u8],
     work: &mut [i32],
 )
-    requires { Ready (frame_of shape mosaic.now) black (lengths_of (buffers red.old green.old blue.old map.old work.old)) }
-    ensures red_after { red.new ≡ plane (frame_of shape mosaic.now) black Colour.red }
-    ensures green_after { green.new ≡ plane (frame_of shape mosaic.now) black Colour.green }
-    ensures blue_after { blue.new ≡ plane (frame_of shape mosaic.now) black Colour.blue }
+    requires { Ready (frame_of shape mosaic.now) black.level (lengths_of (buffers red.old green.old blue.old map.old work.old)) }
+    ensures red_after { red.new ≡ plane (frame_of shape mosaic.now) black.level Colour.red }
+    ensures green_after { green.new ≡ plane (frame_of shape mosaic.now) black.level Colour.green }
+    ensures blue_after { blue.new ≡ plane (frame_of shape mosaic.now) black.level Colour.blue }
     ensures map_after { map.new ≡ decision_map (frame_of shape mosaic.now) }
 {
     let size = shape.height * (4 * shape.width);
     sweep::sweep(
-        mosaic,
         shape,
-        black as u8,
+        black,
+        mosaic,
         red,
         green,
         blue,
@@ -107,6 +107,7 @@ pub fn develop(
         work: work.len(),
     };
     judge(shape, black, mosaic, lengths)?;
-    run(shape, black, mosaic, red, green, blue, map, work);
+    let tested = BlackLevel { level: black };
+    run(shape, tested, mosaic, red, green, blue, map, work);
     Ok(())
 }

@@ -85,10 +85,10 @@ fn corner_mean(
 
 // The final differences of a row, to its record. They are read for sites at most 2 rows away.
 pub fn enhance_line(
-    tops: &[i32; 8224],
     row: Row,
-    work: &mut [i32],
+    tops: &[i32; 8224],
     green: &[i32],
+    work: &mut [i32],
     scratch: &mut Scratch,
 )
     requires some_samples { SomeSamples (λ (zs : List ℕ). EnhanceReads (frame row.shape zs) row.index row.base tops.now work.old green.now) }
@@ -122,7 +122,7 @@ pub fn enhance_line(
 }
 
 // The differences of the other colour of a row, to its record. They are read for sites at most 1 row away.
-pub fn diagonal_line(tops: &[i32; 8224], row: Row, work: &mut [i32], scratch: &mut Scratch)
+pub fn diagonal_line(row: Row, tops: &[i32; 8224], work: &mut [i32], scratch: &mut Scratch)
     requires some_samples { SomeSamples (λ (zs : List ℕ). DiagonalReads (frame row.shape zs) row.index row.base tops.now work.old) }
     ensures diagonal_stores { DiagonalStores row.shape row.index row.base tops.now work.old work.new }
 {

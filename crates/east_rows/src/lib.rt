@@ -96,11 +96,11 @@ pub fn take_half(row: &[i32; 4112], x: usize, count: usize, out: &mut [i32], at:
 
 // E of row i in halves, each from two columns west on. The rows i − 2 to i + 4 stand at the seven entries, their a at the same.
 pub fn east_line(
+    row: Row,
     rows: SevenRows<'_>,
     alongs: &[u16; 98688],
-    row: Row,
-    gradients: &mut [i32; 4112],
     work: &mut [i32],
+    gradients: &mut [i32; 4112],
 )
     requires some_samples { SomeSamples (λ (zs : List ℕ). EastReads (frame row.shape zs) row.index rows.at rows.samples.now
         alongs.now) }

@@ -19,7 +19,7 @@ use positions::{Halves, Row};
 use south_rows::south_line;
 
 // Row i of the mosaic and its a, to their places in the ring.
-pub fn load_line(mosaic: &[u16], row: Row, loaded: &mut LoadedRows)
+pub fn load_line(row: Row, mosaic: &[u16], loaded: &mut LoadedRows)
     requires taken { Taken (frame row.shape mosaic.now) }
     requires i_lt_height { row.index < row.shape.height }
     ensures { LineLoaded (frame row.shape mosaic.now) row.index loaded.old.samples loaded.new.samples
@@ -31,7 +31,7 @@ pub fn load_line(mosaic: &[u16], row: Row, loaded: &mut LoadedRows)
 }
 
 // N of row i, where no record holds it: of the rows 0 and 1. Of the row's halves it needs the first column alone, and so does the next.
-fn top_line(samples: &[u16; 98688], row: Row, scratch: &mut Scratch, tops: &mut [i32; 8224])
+fn top_line(row: Row, samples: &[u16; 98688], tops: &mut [i32; 8224], scratch: &mut Scratch)
     requires some_samples { SomeSamples (λ (zs : List ℕ). MosaicLent (frame row.shape zs) row.index row.base samples.now) }
     ensures tops_formed { TopsFormed row.shape row.index row.base samples.now tops.old tops.new }
 {
@@ -42,24 +42,24 @@ fn top_line(samples: &[u16; 98688], row: Row, scratch: &mut Scratch, tops: &mut 
             at: seven_rows(row.shape.height, i, row.base),
         };
         south_line(
-            rows,
             row.shape,
             positions::first_chroma(row.shape.phase, i),
-            &mut scratch.pairs,
-            &mut scratch.gradients,
+            rows,
             tops,
             i * 4112,
+            &mut scratch.pairs,
+            &mut scratch.gradients,
         );
     }
 }
 
 // E and S of row i to its record, from the rows i − 2 to i + 4.
 fn gradient_line(
+    row: Row,
     rows: SevenRows<'_>,
     alongs: &[u16; 98688],
-    row: Row,
-    scratch: &mut Scratch,
     work: &mut [i32],
+    scratch: &mut Scratch,
 )
     requires some_samples { SomeSamples (λ (zs : List ℕ). EastReads (frame row.shape zs) row.index rows.at rows.samples.now
         alongs.now) }
@@ -67,28 +67,28 @@ fn gradient_line(
     ensures gradients_formed { GradientsFormed row.shape row.index rows.entry.at rows.entry.samples.now
         alongs.now work.old work.new }
 {
-    east_line(rows, alongs, row, &mut scratch.gradients, work);
+    east_line(row, rows, alongs, work, &mut scratch.gradients);
     south_line(
-        rows,
         row.shape,
         positions::first_chroma(row.shape.phase, row.index),
-        &mut scratch.pairs,
-        &mut scratch.gradients,
+        rows,
         work,
         records::south_at(row),
+        &mut scratch.pairs,
+        &mut scratch.gradients,
     );
 }
 
 // r_D and r_V of row i to the planes and its codes to the map, from the rows i − 2 to i + 4 and the gradients.
 fn trial_line(
-    rows: SevenRows<'_>,
     row: Row,
-    scratch: &mut Scratch,
+    rows: SevenRows<'_>,
     tops: &[i32; 8224],
     work: &[i32],
     diagonals: &mut [i32],
     verticals: &mut [i32],
     map: &mut [u8],
+    scratch: &mut Scratch,
 )
     requires some_samples { SomeSamples (λ (zs : List ℕ). TrialsRead (frame row.shape zs) row.index row.base
         (chroma_start row.shape.phase row.index) rows.at rows.samples.now tops.now work.now) }
@@ -125,14 +125,14 @@ fn trial_line(
 
 // E, S, r_D, r_V and the codes of row i, and N of a top row.
 pub fn first_line(
-    loaded: &LoadedRows,
     row: Row,
-    scratch: &mut Scratch,
+    loaded: &LoadedRows,
     tops: &mut [i32; 8224],
     work: &mut [i32],
     diagonals: &mut [i32],
     verticals: &mut [i32],
     map: &mut [u8],
+    scratch: &mut Scratch,
 )
     requires some_samples { SomeSamples (λ (zs : List ℕ). FirstLent (frame row.shape zs) row.index row.base loaded.now.samples
         loaded.now.alongs tops.old work.old) }
@@ -145,7 +145,7 @@ pub fn first_line(
         samples: &loaded.samples,
         at: seven_rows(row.shape.height, row.index + 2, row.base),
     };
-    top_line(&loaded.samples, row, scratch, tops);
-    gradient_line(rows, &loaded.alongs, row, scratch, work);
-    trial_line(rows, row, scratch, tops, work, diagonals, verticals, map);
+    top_line(row, &loaded.samples, tops, scratch);
+    gradient_line(row, rows, &loaded.alongs, work, scratch);
+    trial_line(row, rows, tops, work, diagonals, verticals, map, scratch);
 }

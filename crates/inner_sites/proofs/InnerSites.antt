@@ -1,7 +1,7 @@
 -- Document 02, A3: "the proofs show that every position read for it lies in the frame", for a site 20 or more rows and columns from every
 -- edge. Over the method: each step's positions, and that nothing farther off counts. Over the code: the row numbers. The columns are in
 -- `RowReads` and `HalfRowReads`. No hypothesis but the distance to the edges. Assumes nothing.
-use Rattle.std.specs.Prelude.{◌≡◌, refl, ℕ, ◌+◌, ◌-◌, ◌≤◌, ℤ, nat_abs, ◌+ℤ◌}
+use Rattle.std.specs.Prelude.{◌≡◌, ℕ, ◌+◌, ◌-◌, ◌≤◌, ℤ, nat_abs, ◌+ℤ◌}
 use Rattle.std.proofs.Common.{sym, ◌∙◌}
 use Rattle.std.proofs.Math.Path.{ap}
 use native.Mathlib.Omega.{arith}
@@ -27,7 +27,7 @@ use Rattle.method.proofs.Sizes.{usual_allowed}
 use Rattle.method.proofs.PlaneLaws.{number_is_output, entry_is_code}
 use Rattle.inner_sites.specs.Distances.{gradient_distance, second_pass_distance, enhancement_distance, corner_distance, neighbour_distance, differences_off, finals_off, greens_off, trials_off, reading_distance}
 use Rattle.inner_sites.proofs.StepDistances.{distances_in_figures, within_margin}
-use Rattle.inner_sites.specs.FarSites.{FarFromEdges, Near, ReadAsWritten, StepAsWritten, StepsAsWritten, StageDistances, SameWindow}
+use Rattle.inner_sites.specs.FarSites.{FarFromEdges, Near, ReadAsWritten, StepAsWritten, StepsAsWritten, SameWindow}
 use Rattle.inner_sites.proofs.Surroundings.{written_near, InnerSite, Alike}
 use Rattle.inner_sites.proofs.Stages.{output_alike, entry_alike}
 
@@ -126,19 +126,8 @@ module _ (f f' : Frame) (i j i' j' : ℕ) (far : FarFromEdges f i j) (far' : Far
       entry_is_code f i j (omega (arith, far.rows_below)) (omega (arith, far.columns_east)) ∙ entry_alike _ _ _ _ _ _ window_alike
       ∙ sym (entry_is_code f' i' j' (omega (arith, far'.rows_below)) (omega (arith, far'.columns_east)))
 
--- ---- the row numbers of the code, by the contracts of positions `row_near` and `edge_row` at a distance off, a constant of the call
-
--- the constants by which the stages call them: how far from the row that a stage hands over the site may stand for which it reads there.
--- First hands over the row two below its own
-pub stage_distances : StageDistances OUT_OFF DIAGONAL_OFF ENHANCE_OFF SECOND_OFF FIRST_OFF
-stage_distances =
-    let figures = distances_in_figures in record {
-      out_reads = refl;
-      diagonal_reads = omega arith;
-      enhance_reads = omega arith;
-      second_reads = omega arith;
-      first_reads = omega arith;
-    }
+-- ---- the row numbers of the code, by the contracts of positions `row_near` and `edge_row` at a distance off, a constant of the call.
+-- A call is given h, x, down and up
 
 module _ (off : ℕ) (fits : Fits w64 off) (κs : Lfts 1) (h x down up : ℕ) where
   -- where row x is read for a row i that is far from both edges, off rows away or less, `row_near` answers by adding and subtracting
@@ -149,3 +138,37 @@ module _ (off : ℕ) (fits : Fits w64 off) (κs : Lfts 1) (h x down up : ℕ) wh
   -- and `edge_row`, the one function of rows that reflects, is never asked for it
   pub never_reflected : edge_row_contract.Asked off fits κs (h, (x, (down, (up, tt)))) → (i : ℕ) → Inner h 0 i → ¬ (Near off i x)
   never_reflected asked i inner near = asked.1.4 (inner_off _ _ inner near)
+
+-- ---- at the constants by which the stages call them: how far from the row that a stage hands over the site may stand for which it reads
+-- there. First hands over the row two below its own
+
+-- row y is read for a row i that is far from both edges, d rows away or less: for the row `below` under it, at the constant off, what reflects
+-- is never asked
+abbrev NeverReflects : ℕ → ℕ → ℕ → Type 0
+NeverReflects off below d =
+    (fits : Fits w64 off) (κs : Lfts 1) (h y down up : ℕ) → edge_row_contract.Asked off fits κs (h, (y + below, (down, (up, tt))))
+    → (i : ℕ) → Inner h 0 i → ¬ (Near d i y)
+
+-- each stage, by how far from a site what it leaves is read
+pub record StagesNeverReflect : Type 0 where
+  pub out : NeverReflects OUT_OFF 0 0
+  pub diagonal : NeverReflects DIAGONAL_OFF 0 differences_off
+  pub enhance : NeverReflects ENHANCE_OFF 0 finals_off
+  pub second : NeverReflects SECOND_OFF 0 greens_off
+  pub first : NeverReflects FIRST_OFF 2 trials_off
+
+never_at : (off below d : ℕ) → d + below ≤ off → NeverReflects off below d
+never_at off below d few fits κs h y down up asked i inner near =
+    never_reflected off fits κs h (y + below) down up asked i inner
+    (record { not_before = omega (arith, near.not_before); not_behind = omega (arith, near.not_behind) })
+
+-- "no step for such a site calls what reflects"
+pub stages_never_reflect : StagesNeverReflect
+stages_never_reflect =
+    let figures = distances_in_figures in record {
+      out = never_at OUT_OFF 0 0 (omega arith);
+      diagonal = never_at DIAGONAL_OFF 0 differences_off (omega arith);
+      enhance = never_at ENHANCE_OFF 0 finals_off (omega arith);
+      second = never_at SECOND_OFF 0 greens_off (omega arith);
+      first = never_at FIRST_OFF 2 trials_off (omega arith);
+    }

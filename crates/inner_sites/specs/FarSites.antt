@@ -43,14 +43,6 @@ pub record StepsAsWritten (f : Frame) (i j : ℕ) : Type 0 where
   -- all of it
   pub samples : ReadAsWritten f (reading_distance reach) i j
 
--- the distances by which the stages ask for a row: that of what each leaves. First counts from the row two below its own
-pub record StageDistances (out diagonal enhance second first : ℕ) : Type 0 where
-  pub out_reads : out ≡ 0
-  pub diagonal_reads : diagonal ≡ differences_off
-  pub enhance_reads : enhance ≡ finals_off
-  pub second_reads : second ≡ greens_off
-  pub first_reads : first ≡ trials_off + 2
-
 -- samples and colours about (i,j) of one frame and (i',j') of another are the same, as far as is read
 pub record SameWindow (f f' : Frame) (i j i' j' : ℕ) : Type 0 where
   pub samples : (x y x' y' : ℕ) → x + i' ≡ x' + i → y + j' ≡ y' + j → Near (reading_distance reach) i x → Near (reading_distance reach) j y

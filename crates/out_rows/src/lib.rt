@@ -13,6 +13,7 @@ ghost use Rattle.half_rows.specs.Sources.{Sized};
 ghost use Rattle.out_rows.specs.Woven.{woven};
 ghost use Rattle.out_rows.specs.RowPlaces.{RowOf, Placed};
 
+use frame::BlackLevel;
 use half_rows::SiteGradients;
 use positions::{Halves, OUT_OFF, Row};
 
@@ -154,12 +155,11 @@ impl Places {
     }
 }
 
-// A colour at green sites: 4·G less its difference, which m holds, as an output. The black level is an i32 with its bound in a clause, here, below
-// and in site_values: as a u8 it would be turned to one in every loop, and below 0 it could not be.
-pub fn green_sites(z: &[i32; 2064], black: i32, m: &mut [i32; 2064], count: usize)
-    requires { (count ≤ 2048) × (Sized 4096 4 (count + 4) z.now) × (Sized 4096 4 (count + 4) m.old) × (nat_abs black ≤ 255) }
+// A colour at green sites: 4·G less its difference, which m holds, as an output.
+pub fn green_sites(z: &[i32; 2064], black: BlackLevel, m: &mut [i32; 2064], count: usize)
+    requires { (count ≤ 2048) × (Sized 4096 4 (count + 4) z.now) × (Sized 4096 4 (count + 4) m.old) }
     ensures { Entries (pos 0) 2064 4 (count + 4) (λ (x : ℕ). final_round (pos 4 *ℤ get_or z.now x (pos 0) -ℤ get_or
-        m.old x (pos 0)) -ℤ black) m.new }
+        m.old x (pos 0)) -ℤ pos black.level) m.new }
 {
     for k in 4..count + 4 {
         m[k] = site_values::output(4 * z[k] - m[k], black);
@@ -171,17 +171,17 @@ pub fn chroma_sites(
     own: &[i32; 2064],
     other: &[i32; 2064],
     z: &[i32; 2064],
-    black: i32,
+    black: BlackLevel,
     g: &mut [i32; 2064],
     y: &mut [i32; 2064],
     count: usize,
 )
-    requires count_bound { (count ≤ 2048) × (nat_abs black ≤ 255) }
+    requires count_bound { count ≤ 2048 }
     requires sized { (Sized 4096 4 (count + 4) own.now) × (Sized 4096 4 (count + 4) other.now) × (Sized 4096 4 (count + 4) z.now) }
     ensures entries { Entries (pos 0) 2064 4 (count + 4) (λ (x : ℕ). final_round (get_or own.now x (pos 0) +ℤ pos 4 *ℤ get_or
-        z.now x (pos 0)) -ℤ black) g.new }
+        z.now x (pos 0)) -ℤ pos black.level) g.new }
     ensures entries_2 { Entries (pos 0) 2064 4 (count + 4) (λ (x : ℕ). final_round (get_or own.now x (pos 0) +ℤ pos 4 *ℤ get_or
-        z.now x (pos 0) -ℤ get_or other.now x (pos 0)) -ℤ black) y.new }
+        z.now x (pos 0) -ℤ get_or other.now x (pos 0)) -ℤ pos black.level) y.new }
 {
     for k in 4..count + 4 {
         let q = own[k] + 4 * z[k];
@@ -192,12 +192,12 @@ pub fn chroma_sites(
 }
 
 // The measured colour at its sites: the samples, less the black level.
-pub fn measured(z: &mut [i32; 2064], black: i32, count: usize)
-    requires { (count ≤ 2048) × (Sized 4096 4 (count + 4) z.old) × (nat_abs black ≤ 255) }
-    ensures { Entries (pos 0) 2064 4 (count + 4) (λ (x : ℕ). get_or z.old x (pos 0) -ℤ black) z.new }
+pub fn measured(z: &mut [i32; 2064], black: BlackLevel, count: usize)
+    requires { (count ≤ 2048) × (Sized 4096 4 (count + 4) z.old) }
+    ensures { Entries (pos 0) 2064 4 (count + 4) (λ (x : ℕ). get_or z.old x (pos 0) -ℤ pos black.level) z.new }
 {
     for x in z[4..count + 4].iter_mut() {
-        *x -= black;
+        *x -= black.level as i32;
     }
 }
 

@@ -64,10 +64,9 @@ pub record OutputsRead (f : Frame) (i at : ℕ) (rows : List ℕ) (own other x y
   pub row : Loaded f i at rows
   pub differences : RowDifferences f i own other x y
 
--- of every frame whose samples and differences these are, at the black level that black is
-pub record OutputsFormed (shape : Shape) (black : ℤ) (i at : ℕ) (rows : List ℕ) (own other x y zx zg xg xo x' y' : List ℤ) : Type 0 where
-  pub row : (b : ℕ) (zs : List ℕ) → black ≡ pos b → OutputsRead (frame shape zs) i at rows own other x y
-      → RowOutputs (frame shape zs) b i zx zg xg xo x' y'
+-- of every frame whose samples and differences these are, at a black level
+pub record OutputsFormed (shape : Shape) (black i at : ℕ) (rows : List ℕ) (own other x y zx zg xg xo x' y' : List ℤ) : Type 0 where
+  pub row : (zs : List ℕ) → OutputsRead (frame shape zs) i at rows own other x y → RowOutputs (frame shape zs) black i zx zg xg xo x' y'
 
 -- a row of three planes of the shape
 pub record RowStores (shape : Shape) (i start : ℕ) (red_plane green_plane blue_plane : List ℤ) : Type 0 where

@@ -65,12 +65,12 @@ module _ (shape : Shape) (i start : ℕ) (r : RowOf shape i) (e : start ≡ chro
         })
 
 -- the steps of the line, one after the other
-pub out_stored : {shape : Shape} {black i base at : ℕ} {level : ℤ} {c : Colour} {rows : List ℕ}
+pub out_stored : {shape : Shape} {black i base at : ℕ} {c : Colour} {rows : List ℕ}
     {tops work own other x y zx zg xg xo x' y' old new : List ℤ}
     → DifferencesFormed shape i base tops work own other x y → at ≡ place_in_ring i * 4112
-    → level ≡ pos black → OutputsFormed shape level i at rows own other x y zx zg xg xo x' y'
+    → OutputsFormed shape black i at rows own other x y zx zg xg xo x' y'
     → PlaneRow shape i c zx zg xg xo x' y' old new
     → OutStores shape black i base c rows tops work old new
-out_stored {black = black} d e is o p = record {
-  row = λ zs lent. p.row black zs (o.row black zs is (outputs_read lent e (d.row zs lent.reads)));
+out_stored {black = black} d e o p = record {
+  row = λ zs lent. p.row black zs (o.row zs (outputs_read lent e (d.row zs lent.reads)));
 }

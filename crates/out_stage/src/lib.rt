@@ -7,6 +7,7 @@ ghost use Rattle.positions.specs.Taken.{SomeSamples};
 ghost use Rattle.records.specs.Stages.{OutReads};
 ghost use Rattle.out_stage.specs.OutRows.{DifferencesFormed, OutputsRead, OutputsFormed, RowStores, PlaneRow, OutLent, OutStores};
 
+use frame::BlackLevel;
 use half_rows::Scratch;
 use out_rows::PlacedRow;
 use positions::Row;
@@ -17,7 +18,7 @@ use positions::Row;
 
 // Both differences of a row: own and other at its red and blue sites, x and y at its green sites.
 #[tactic(auto, using(crate::specs::DirectReads::place_laws, half_rows::specs::SiteGradients::north_room))]
-fn row_differences(tops: &[i32; 8224], work: &[i32], p: PlacedRow, scratch: &mut Scratch)
+fn row_differences(p: PlacedRow, tops: &[i32; 8224], work: &[i32], scratch: &mut Scratch)
     requires { SomeSamples (λ (zs : List ℕ). OutReads (frame p.row.shape zs) p.row.index p.row.base tops.now work.now) }
     ensures { DifferencesFormed p.row.shape p.row.index p.row.base tops.now work.now
         scratch.new.own scratch.new.other scratch.new.trials.across scratch.new.trials.vertical }
@@ -39,17 +40,22 @@ fn row_differences(tops: &[i32; 8224], work: &[i32], p: PlacedRow, scratch: &mut
 
 // The outputs of a row, whose samples stand from entry at on.
 #[tactic(auto, using(crate::specs::DirectReads::place_laws))]
-fn row_outputs(samples: &[u16; 98688], at: usize, black: u8, p: PlacedRow, scratch: &mut Scratch)
+fn row_outputs(
+    p: PlacedRow,
+    black: BlackLevel,
+    samples: &[u16; 98688],
+    at: usize,
+    scratch: &mut Scratch,
+)
     requires some_samples { SomeSamples (λ (zs : List ℕ). OutputsRead (frame p.row.shape zs) p.row.index at samples.now
         scratch.old.own scratch.old.other scratch.old.trials.across scratch.old.trials.vertical) }
     requires at_bound { at + 4112 ≤ 98688 }
-    ensures { OutputsFormed p.row.shape (pos black) p.row.index at samples.now
+    ensures { OutputsFormed p.row.shape black.level p.row.index at samples.now
         scratch.old.own scratch.old.other scratch.old.trials.across scratch.old.trials.vertical
         scratch.new.sums.across scratch.new.trials.diagonal scratch.new.sums.diagonal
         scratch.new.sums.vertical scratch.new.trials.across scratch.new.trials.vertical }
 {
     let places = p.places;
-    let black = i32::from(black);
     let greens = &mut scratch.trials;
     let chroma = &mut scratch.sums;
     out_rows::samples(samples, at, places.start, places.count, &mut chroma.across);
@@ -115,29 +121,29 @@ fn store_outputs(
 
 // A row of the three planes.
 pub fn out_line(
+    row: Row,
+    black: BlackLevel,
     samples: &[u16; 98688],
     tops: &[i32; 8224],
-    row: Row,
-    black: u8,
     work: &[i32],
-    scratch: &mut Scratch,
     red: &mut [i32],
     green: &mut [i32],
     blue: &mut [i32],
+    scratch: &mut Scratch,
 )
     requires some_samples { SomeSamples (λ (zs : List ℕ). OutLent (frame row.shape zs) row.index row.base samples.now tops.now work.now) }
     requires red_len { (length red.old ≡ row.shape.height * row.shape.width) × (length green.old ≡ row.shape.height * row.shape.width)
         × (length blue.old ≡ row.shape.height * row.shape.width) }
-    ensures out_stores { OutStores row.shape black row.index row.base Colour.red samples.now tops.now work.now
+    ensures out_stores { OutStores row.shape black.level row.index row.base Colour.red samples.now tops.now work.now
         red.old red.new }
-    ensures out_stores_2 { OutStores row.shape black row.index row.base Colour.green samples.now tops.now work.now
+    ensures out_stores_2 { OutStores row.shape black.level row.index row.base Colour.green samples.now tops.now work.now
         green.old green.new }
-    ensures out_stores_3 { OutStores row.shape black row.index row.base Colour.blue samples.now tops.now work.now
+    ensures out_stores_3 { OutStores row.shape black.level row.index row.base Colour.blue samples.now tops.now work.now
         blue.old blue.new }
 {
     let p = out_rows::row_places(row);
     let at = mosaic_rows::row_at(row.index, row.base);
-    row_differences(tops, work, p, scratch);
-    row_outputs(samples, at, black, p, scratch);
+    row_differences(p, tops, work, scratch);
+    row_outputs(p, black, samples, at, scratch);
     store_outputs(p, scratch, red, green, blue);
 }

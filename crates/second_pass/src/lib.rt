@@ -184,13 +184,13 @@ fn map_row(codes: &[u8; 2048], map: &mut [u8], at: usize, c: usize, w: usize)
 
 // The second pass of row i: D, from r_D and r_V of the rows to 8 off, to its row of out; the codes to its row of the map.
 pub fn second_line(
-    diagonals: &[i32],
-    verticals: &[i32],
     shape: Shape,
     i: usize,
-    scratch: &mut Scratch,
+    diagonals: &[i32],
+    verticals: &[i32],
     out: &mut [i32],
     map: &mut [u8],
+    scratch: &mut Scratch,
 )
     requires some_samples { SomeSamples (λ (zs : List ℕ). SecondLent (frame shape zs) i diagonals.now verticals.now map.old) }
     requires out_len { length out.old ≡ shape.height * shape.width }

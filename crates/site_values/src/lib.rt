@@ -7,6 +7,8 @@ ghost use Rattle.method.specs.Planes.{corner_gradients, fused, final_round};
 ghost use Rattle.method.specs.Four.{directions, sizes, listed};
 ghost use Rattle.method.specs.Sizes.{Naturals};
 
+use frame::BlackLevel;
+
 // The gradients of the corners NE, NW, SE and SW, each the sum of its two.
 pub fn diagonal(g: [i64; 4]) -> [i64; 4]
     requires { Naturals 1000000 g }
@@ -43,9 +45,9 @@ pub fn fuse(d: i32, m: i32) -> i32
 }
 
 // The output of a number in quarters: it is rounded, then the black level is taken off.
-pub fn output(q: i32, black: i32) -> i32
-    requires { (nat_abs q ≤ 1000000) × (nat_abs black ≤ 255) }
-    ensures { result ≡ final_round q -ℤ black }
+pub fn output(q: i32, black: BlackLevel) -> i32
+    requires { nat_abs q ≤ 1000000 }
+    ensures { result ≡ final_round q -ℤ pos black.level }
 {
-    ((q + 2) >> 2) - black
+    ((q + 2) >> 2) - black.level as i32
 }

@@ -56,13 +56,13 @@ fn north_row(rows: SevenRows<'_>, w: usize, pairs: &[u16; 4112], gradients: &mut
 // Stores N of the row at at[4] in halves, of which the first starts at column c, from entry to on. It is S of the row at at[2].
 // The column is lent, and no `Halves` made here, since the seven entries do not tell of which row they are.
 pub fn south_line(
-    rows: SevenRows<'_>,
     shape: Shape,
     c: usize,
-    pairs: &mut [u16; 4112],
-    gradients: &mut [i32; 4112],
+    rows: SevenRows<'_>,
     out: &mut [i32],
     to: usize,
+    pairs: &mut [u16; 4112],
+    gradients: &mut [i32; 4112],
 )
     requires { SouthLent shape c to rows.at rows.samples.now out.old }
     ensures south_stores { SouthStores shape c to rows.entry.at rows.entry.samples.now out.old out.new }

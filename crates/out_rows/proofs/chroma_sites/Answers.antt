@@ -1,9 +1,7 @@
 -- `out_rows::chroma_sites` meets its contract. Assumes nothing.
 use mathlib.Core.Path.{◌∙◌, ap}
-use lib.IntN.{ℤ, ◌-ℤ◌}
+use lib.IntN.{ℤ, pos, ◌-ℤ◌}
 use native.Mathlib.Omega.{arith}
-use mir.Syntax.{w32}
-use mir.Val.{to_z, of_z}
 use Rattle.toolkit.specs.Bounds.{fits, val}
 use Rattle.toolkit.specs.BoundRules.{small, vals}
 use Rattle.toolkit.specs.Entries.{entries_next}
@@ -15,8 +13,7 @@ pub output-requires : goal.output-requires
 output-requires c =
     let hz = c.requires.sized.2.each c.loop-k.k c.loop-k.auto.k c.loop-k-test.true in
     let hd = c.requires.sized.0.each c.loop-k.k c.loop-k.auto.k c.loop-k-test.true in
-    let hb = c.requires.count_bound.1 in
-    (small (search vals depth 30) tt, small (search vals depth 30) tt)
+    small (search vals depth 30) tt
 
 pub overflow_sub-q : goal.overflow_sub-q
 overflow_sub-q c =
@@ -30,17 +27,15 @@ output-requires-in-loop-k c =
     let hz = c.requires.sized.2.each c.loop-k.k c.loop-k.auto.k c.loop-k-test.true in
     let hd = c.requires.sized.0.each c.loop-k.k c.loop-k.auto.k c.loop-k-test.true in
     let ho = c.requires.sized.1.each c.loop-k.k c.loop-k.auto.k c.loop-k-test.true in
-    let hb = c.requires.count_bound.1 in
-    (small (search vals depth 30) tt, small (search vals depth 30) tt)
+    small (search vals depth 30) tt
 
 pub loop-k-preserved : goal.loop-k-preserved
 loop-k-preserved c =
-    let level = to_z w32 (of_z w32 c.args.black) in
     let hz = c.requires.sized.2.each c.loop-k.k c.loop-k.auto.k c.loop-k-test.true in
     let hd = c.requires.sized.0.each c.loop-k.k c.loop-k.auto.k c.loop-k-test.true in
     let ho = c.requires.sized.1.each c.loop-k.k c.loop-k.auto.k c.loop-k-test.true in (
       entries_next c.loop-k.invariant.0 (omega arith) (omega arith)
-          (as_read c.output.type_inv ∙ (c.output.ensures ∙ ap (λ (q : ℤ). final_round q -ℤ level) (val (search vals depth 30) tt))),
+          (as_read c.output.type_inv ∙ (c.output.ensures ∙ ap (λ (q : ℤ). final_round q -ℤ pos c.args.black.level) (val (search vals depth 30) tt))),
       entries_next c.loop-k.invariant.1 (omega arith) (omega arith)
-          (as_read c.output-in-loop-k.type_inv ∙ (c.output-in-loop-k.ensures ∙ ap (λ (q : ℤ). final_round q -ℤ level) (val (search vals depth 30) tt))),
+          (as_read c.output-in-loop-k.type_inv ∙ (c.output-in-loop-k.ensures ∙ ap (λ (q : ℤ). final_round q -ℤ pos c.args.black.level) (val (search vals depth 30) tt))),
     )

@@ -1,9 +1,7 @@
 -- `out_rows::green_sites` meets its contract. Assumes nothing.
 use mathlib.Core.Path.{◌∙◌, ap}
-use lib.IntN.{ℤ, ◌-ℤ◌}
+use lib.IntN.{ℤ, pos, ◌-ℤ◌}
 use native.Mathlib.Omega.{arith}
-use mir.Syntax.{w32}
-use mir.Val.{to_z, of_z}
 use Rattle.toolkit.specs.Bounds.{fits, val}
 use Rattle.toolkit.specs.BoundRules.{small, vals}
 use Rattle.toolkit.specs.Entries.{entries_next, entries_past}
@@ -23,18 +21,16 @@ output-requires c =
     let hz = c.requires.1.each c.loop-k.k c.loop-k.auto.k c.loop-k-test.true in
     let same = c.loop-k.invariant.1.at c.loop-k.k (omega arith) c.loop-k-test.true in
     let hm = size_read _ same (c.requires.2.each c.loop-k.k c.loop-k.auto.k c.loop-k-test.true) in
-    let hb = c.requires.3 in
-    (small (search vals depth 30) tt, small (search vals depth 30) tt)
+    small (search vals depth 30) tt
 
 pub loop-k-preserved : goal.loop-k-preserved
 loop-k-preserved c =
     let inv = c.loop-k.invariant in
-    let level = to_z w32 (of_z w32 c.args.black) in
     let hz = c.requires.1.each c.loop-k.k c.loop-k.auto.k c.loop-k-test.true in
     let same = inv.1.at c.loop-k.k (omega arith) c.loop-k-test.true in
     let hm = size_read _ same (c.requires.2.each c.loop-k.k c.loop-k.auto.k c.loop-k-test.true) in (
       entries_next inv.0 (omega arith) (omega arith)
           (rw (← same) (as_read c.output.type_inv
-          ∙ (c.output.ensures ∙ ap (λ (q : ℤ). final_round q -ℤ level) (val (search vals depth 30) tt)))),
+          ∙ (c.output.ensures ∙ ap (λ (q : ℤ). final_round q -ℤ pos c.args.black.level) (val (search vals depth 30) tt)))),
       entries_past _ inv.1 (omega arith) (omega arith),
     )

@@ -3,7 +3,6 @@ use mathlib.Core.List.{List}
 use mathlib.Core.Path.{◌≡◌, refl, ◌∙◌, ap}
 use Prim.Native.Nat.{ℕ, ◌+◌, ◌-◌, ◌<◌, ◌≤◌}
 use lib.ListN.{length, get_or}
-use mir.Facts.{to_z-of_z}
 use native.Mathlib.Omega.{arith}
 use borrow.Rule.Slice.PartMut.{put_mid}
 use Rattle.std.proofs.Common.{rules}
@@ -21,8 +20,8 @@ loop-x-preserved c =
     let inside : i < c.args.count = omega (arith, inv.0.size, c.loop-x.auto.x-items) in
     let same = inv.1.at i (omega arith) inside in
     let hz = size_read _ same (c.requires.1.each (4 + i) (omega arith) (omega arith)) in
-    let hb = c.requires.2 in (
-      entries_next inv.0 inside (omega arith) (val (search vals depth 30) tt ∙ rw (same, to_z-of_z c.ranges.black)),
+    let hb = c.args.black.tested in (
+      entries_next inv.0 inside (omega arith) (val (search vals depth 30) tt ∙ rw (same)),
       entries_past _ inv.1 (omega arith) (omega arith),
     )
 
@@ -44,4 +43,4 @@ returns c =
     let inv = c.loop-x.invariant in
     entries_put 4 _ _ _ c.told-z (omega (arith, c.requires.0)) (omega arith)
     (entries_as inv.0 (omega arith) (omega (arith, inv.0.size, c.loop-x.auto.x-items)) (λ j b h. refl))
-    (λ j h. rw (to_z-of_z c.ranges.black))
+    (λ j h. refl)

@@ -1,5 +1,4 @@
 -- `out_stage::out_line` meets its contract. Assumes nothing.
-use mathlib.Core.Path.{refl}
 use Rattle.out_rows.specs.RowPlaces.{RowOf}
 use Rattle.out_stage.specs.RowOutputs.{outputs_read}
 use Rattle.out_stage.specs.PlaneRows.{out_stored}
@@ -50,7 +49,7 @@ returns c =
     let made = rw same at c.row_outputs.ensures in
     let stored = rw same at c.store_outputs.ensures in
     record {
-      out_stores = out_stored formed place refl made stored.plane_row;
-      out_stores_2 = out_stored formed place refl made stored.plane_row_2;
-      out_stores_3 = out_stored formed place refl made stored.plane_row_3;
+      out_stores = out_stored formed place made stored.plane_row;
+      out_stores_2 = out_stored formed place made stored.plane_row_2;
+      out_stores_3 = out_stored formed place made stored.plane_row_3;
     }

@@ -1,13 +1,6 @@
 -- `out_stage::row_outputs` meets its contract. Assumes nothing.
-use mathlib.Core.Path.{◌≡◌, ◌∙◌}
-use Prim.Native.Nat.{◌≤◌}
-use lib.IntN.{pos, nat_abs}
-use mir.Syntax.{w32}
-use mir.Val.{to_z, of_z}
-use native.Mathlib.Omega.{arith}
-use Rattle.std.proofs.Common.{rules}
+use mathlib.Core.Path.{refl}
 use Rattle.frame.specs.Sites.{frame}
-use Rattle.half_rows.specs.Reading.{as_read, size_read}
 use Rattle.out_stage.specs.DirectReads.{count_few, rest_few, count_chroma, rest_green}
 use Rattle.out_stage.specs.RowOutputs.{RowBounded, row_bounded, outputs_are}
 use Rattle.out_stage.proofs.row_outputs.Goals as goal
@@ -25,19 +18,12 @@ bounded c =
     (count_chroma _ zs _ p.places p.placed) (rest_green _ zs _ p.places p.placed) _ _ _ _ _ _ _ c.requires.some_samples.holds
     c.samples.ensures c.samples-2.ensures
 
--- the black level, as the loops are handed it
-level_is : (c : After-samples-2) → to_z w32 (of_z w32 c.from-black.result) ≡ pos c.args.black
-level_is c = as_read c.from-black.type_inv ∙ c.from-black.ensures
-
-level_small : (c : After-samples-2) → nat_abs (to_z w32 (of_z w32 c.from-black.result)) ≤ 255
-level_small c = size_read _ (level_is c) (omega arith)
-
 pub chroma_sites-requires : goal.chroma_sites-requires
 chroma_sites-requires c =
     let p = c.args.p in
     let start = (goal.at.chroma_sites-requires c).After-samples-2 in
     let size = bounded start in record {
-      count_bound = (count_few _ c.requires.some_samples.samples _ p.places p.placed p.row.narrow, level_small start);
+      count_bound = count_few _ c.requires.some_samples.samples _ p.places p.placed p.row.narrow;
       sized = (size.own_small, size.other_small, size.zx_small);
     }
 
@@ -46,38 +32,35 @@ green_sites-requires c =
     let p = c.args.p in
     let start = (goal.at.green_sites-requires c).After-samples-2 in
     let size = bounded start in
-    (rest_few _ c.requires.some_samples.samples _ p.places p.placed p.row.narrow, size.zg_small, size.x_small, level_small start)
+    (rest_few _ c.requires.some_samples.samples _ p.places p.placed p.row.narrow, size.zg_small, size.x_small)
 
 pub green_sites-requires-2 : goal.green_sites-requires-2
 green_sites-requires-2 c =
     let p = c.args.p in
     let start = (goal.at.green_sites-requires-2 c).After-samples-2 in
     let size = bounded start in
-    (rest_few _ c.requires.some_samples.samples _ p.places p.placed p.row.narrow, size.zg_small, size.y_small, level_small start)
+    (rest_few _ c.requires.some_samples.samples _ p.places p.placed p.row.narrow, size.zg_small, size.y_small)
 
 pub measured-requires : goal.measured-requires
 measured-requires c =
     let p = c.args.p in
     let start = (goal.at.measured-requires c).After-samples-2 in
-    let level = level_small start in
-    (count_few _ c.requires.some_samples.samples _ p.places p.placed p.row.narrow, (bounded start).zx_small, search rules)
+    (count_few _ c.requires.some_samples.samples _ p.places p.placed p.row.narrow, (bounded start).zx_small)
 
 pub measured-requires-2 : goal.measured-requires-2
 measured-requires-2 c =
     let p = c.args.p in
     let start = (goal.at.measured-requires-2 c).After-samples-2 in
-    let level = level_small start in
-    (rest_few _ c.requires.some_samples.samples _ p.places p.placed p.row.narrow, (bounded start).zg_small, search rules)
+    (rest_few _ c.requires.some_samples.samples _ p.places p.placed p.row.narrow, (bounded start).zg_small)
 
 pub returns : goal.returns
 returns c =
     let a = c.args in
     let p = a.p in
-    let level = level_is (goal.at.returns c).After-samples-2 in
     record {
-      row = λ b zs is reads. outputs_are (frame p.row.shape zs) p.row.index a.at p.places.start p.places.count p.places.rest p.placed.start_is
+      row = λ zs reads. outputs_are (frame p.row.shape zs) p.row.index a.at p.places.start p.places.count p.places.rest p.placed.start_is
           (count_chroma _ zs _ p.places p.placed) (rest_green _ zs _ p.places p.placed) _ _ _ _ _ _ _ reads
-          c.samples.ensures c.samples-2.ensures b (level ∙ is) _ _ _ _ _ _
+          c.samples.ensures c.samples-2.ensures a.black.level refl _ _ _ _ _ _
           c.chroma_sites.ensures.entries c.chroma_sites.ensures.entries_2 c.green_sites.ensures c.green_sites-2.ensures
           c.measured.ensures c.measured-2.ensures;
     }

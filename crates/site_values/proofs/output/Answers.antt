@@ -1,6 +1,6 @@
 -- `site_values::output` meets its contract. Assumes nothing.
 use mathlib.Core.Path.{◌∙◌, ap}
-use lib.IntN.{ℤ, ◌-ℤ◌}
+use lib.IntN.{ℤ, pos, ◌-ℤ◌}
 use Rattle.toolkit.specs.Bounds.{val}
 use Rattle.toolkit.specs.BoundRules.{vals}
 use Rattle.toolkit.specs.Shifts.{b_shift}
@@ -10,4 +10,4 @@ use Rattle.site_values.proofs.output.Goals as goal
 
 pub returns : goal.returns
 unfolding final_round
-returns c = val (search (b_shift, vals) depth 30) tt ∙ ap (λ (r : ℤ). r -ℤ c.args.black) (quarter c.args.q)
+returns c = val (search (b_shift, vals) depth 30) tt ∙ ap (λ (r : ℤ). r -ℤ pos c.args.black.level) (quarter c.args.q)

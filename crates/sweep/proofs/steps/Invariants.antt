@@ -8,5 +8,5 @@ use Rattle.sweep.proofs.steps.Given as goal
 
 abbrev pub invariant-loop-t : goal.invariant-loop-t
 invariant-loop-t l =
-    Sweep (frame l.shape l.mosaic) l.black l.t l.t l.t l.t l.t l.tops l.work l.red l.green l.blue l.map
-    × MosaicKept (frame l.shape l.mosaic) l.t l.loaded.samples l.loaded.alongs × Round l.base (l.t - 24) l.t
+    Sweep (frame l.first.shape l.mosaic) l.first.black.level l.t l.t l.t l.t l.t l.tops l.work l.red l.green l.blue l.map
+    × MosaicKept (frame l.first.shape l.mosaic) l.t l.loaded.samples l.loaded.alongs × Round l.base (l.t - 24) l.t
