@@ -1,7 +1,7 @@
 -- Document 02, A3: "the proofs show that every position read for it lies in the frame", for a site 20 or more rows and columns from every
 -- edge. Over the method: each step's positions, and that nothing farther off counts. Over the code: the row numbers. The columns are in
 -- `RowReads` and `HalfRowReads`. No hypothesis but the distance to the edges. Assumes nothing.
-use Rattle.std.specs.Prelude.{◌≡◌, ℕ, ◌+◌, ◌-◌, ◌≤◌, ℤ, nat_abs, ◌+ℤ◌}
+use Rattle.std.specs.Prelude.{◌≡◌, refl, ℕ, ◌+◌, ◌-◌, ◌≤◌, ℤ, nat_abs, ◌+ℤ◌}
 use Rattle.std.proofs.Common.{sym, ◌∙◌}
 use Rattle.std.proofs.Math.Path.{ap}
 use native.Mathlib.Omega.{arith}
@@ -155,7 +155,7 @@ pub record StagesNeverReflect : Type 0 where
   pub diagonal : NeverReflects DIAGONAL_OFF 0 differences_off
   pub enhance : NeverReflects ENHANCE_OFF 0 finals_off
   pub second : NeverReflects SECOND_OFF 0 greens_off
-  pub first : NeverReflects FIRST_OFF 2 trials_off
+  pub first : NeverReflects FIRST_OFF 2 (trials_off reach)
 
 never_at : (off below d : ℕ) → d + below ≤ off → NeverReflects off below d
 never_at off below d few fits κs h y down up asked i inner near =
@@ -170,5 +170,5 @@ stages_never_reflect =
       diagonal = never_at DIAGONAL_OFF 0 differences_off (omega arith);
       enhance = never_at ENHANCE_OFF 0 finals_off (omega arith);
       second = never_at SECOND_OFF 0 greens_off (omega arith);
-      first = never_at FIRST_OFF 2 trials_off (omega arith);
+      first = never_at FIRST_OFF 2 (trials_off reach) (omega arith);
     }
