@@ -14,6 +14,7 @@
 PREFIX ?= /usr/local
 CHANGES ?= transpose left-right
 FRAME ?= examples/glaze.bayr
+export FRAME
 .PHONY: help run curve unproved test lib install lib-check tool turned soak bench profile
 
 help:
@@ -24,23 +25,25 @@ need-%:
 	@tools/needs $*
 
 run: need-rt
-	@tools/print proved print_frame "$(FRAME)"
+	@tools/print proved print_frame "$$FRAME"
 
 curve: need-rt
-	@tools/print proved print_curve "$(FRAME)"
+	@tools/print proved print_curve "$$FRAME"
 
 unproved: need-rt
-	@tools/print unproved print_frame "$(FRAME)"
+	@tools/print unproved print_frame "$$FRAME"
 
 test: need-rt need-gcc need-cargo
 	@tests/run
 
-lib: need-rt need-gcc
-	@tools/proofs/prove bayer_c
-	@library/build
+lib: need-rt need-gcc build/lib/libbayer.so
 
-build/lib/libbayer.so: include/bayer.h $(wildcard library/* crates/*/src/*.rt)
-	@$(MAKE) --no-print-directory lib
+# Proved anew where it is not proved as it stands, and otherwise left as it is.
+build/proved/libbayer_c.a: need-rt
+	@tools/proofs/prove bayer_c
+
+build/lib/libbayer.so: build/proved/libbayer_c.a include/bayer.h $(wildcard library/*)
+	@library/build
 
 install: build/lib/libbayer.so
 	@library/install "$(abspath $(PREFIX))"

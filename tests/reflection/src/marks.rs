@@ -6,8 +6,16 @@ use std::collections::BTreeSet;
 /// Operators that take a remainder; `&` does by a power of two where something stands before it.
 const OPERATORS: [&str; 3] = ["%", "%=", "&="];
 
-/// Parts of the names of what takes a remainder, as `rem_euclid`, `checked_rem` and `is_multiple_of`.
-const PARTS: [&str; 4] = ["rem", "Rem", "RemAssign", "multiple"];
+/// Parts of the names of what takes a remainder, as `rem_euclid`, `checked_rem`, `is_multiple_of` and `bitand`.
+const PARTS: [&str; 7] = [
+    "rem",
+    "Rem",
+    "RemAssign",
+    "multiple",
+    "bitand",
+    "BitAnd",
+    "BitAndAssign",
+];
 
 /// Keywords behind which `&` borrows.
 const BEFORE_BORROW: [&str; 12] = [

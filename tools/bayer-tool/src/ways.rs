@@ -11,6 +11,9 @@ const BY_UMASK: u32 = 0o666;
 /// The mode of a file until it has that of the one that it replaces.
 const OWNER_ALONE: u32 = 0o600;
 
+/// How many names of parts are tried.
+const MOST_LEFT: u32 = 1000;
+
 /// A file beside the one that it becomes, taken away again unless it has become that.
 struct Part {
     path: PathBuf,
@@ -18,15 +21,18 @@ struct Part {
 }
 
 impl Part {
+    /// Under a name that no run which was cut off has left.
     fn beside(path: &Path, mode: u32) -> io::Result<Part> {
-        let path = path.with_file_name(format!(".bayer-tool.{}.part", std::process::id()));
         let mut options = File::options();
-        let file = options
-            .write(true)
-            .create_new(true)
-            .mode(mode)
-            .open(&path)?;
-        Ok(Part { path, file })
+        options.write(true).create_new(true).mode(mode);
+        let own = std::process::id();
+        let mut names =
+            (0..MOST_LEFT).map(|k| path.with_file_name(format!(".bayer-tool.{own}.{k}.part")));
+        let made = names.find_map(|path| match options.open(&path) {
+            Err(why) if why.kind() == ErrorKind::AlreadyExists => None,
+            made => Some(made.map(|file| Part { path, file })),
+        });
+        made.unwrap_or_else(|| Err(ErrorKind::AlreadyExists.into()))
     }
 
     fn fill(&mut self, bytes: &[u8]) -> io::Result<()> {
