@@ -47,7 +47,7 @@ pub fn sources(root: &Path, names: &[String]) -> Result<Vec<Source>, String> {
 
 fn files(root: &Path, name: &str) -> Result<Vec<Source>, String> {
     let mut paths = Vec::new();
-    add_files(&root.join("crates").join(name), &mut paths)?;
+    add_files(&root.join("crates").join(name).join("src"), &mut paths)?;
     paths.sort();
     let read = |path: PathBuf| {
         let text = fs::read_to_string(&path).map_err(|why| format!("{}: {why}", path.display()))?;
