@@ -6,7 +6,7 @@ use Rattle.toolkit.specs.Tests.{holds, leb_le, eqb_eq, and_true}
 use Rattle.frame.specs.declared.Shape.{Shape}
 use Rattle.answers.specs.declared.Refusal.TheVariants.{Size, Phase, MosaicLength}
 use Rattle.frame.specs.Sites.{side_allowed, phase_allowed}
-use Rattle.answers.proofs.Admission.{tested_done}
+use Rattle.answers.proofs.Admission.{test_done, in_order_done}
 use Rattle.frame.proofs.Sites.{side_high}
 use Rattle.admission.specs.ShapeTest.{shape_answer, count_answer}
 
@@ -18,18 +18,17 @@ pub record Allowed (shape : Shape) : Type 0 where
 pub shape_passes : (shape : Shape) → shape_answer shape ≡ no_refusal → Allowed shape
 unfolding shape_answer phase_allowed
 shape_passes shape e =
-    let sides = tested_done _ Size _ e in
-    let phase = tested_done _ Phase _ sides.1 in
-    let both = and_true (side_allowed shape.width) (side_allowed shape.height) sides.0 in
+    let (sides, (phase, end)) = in_order_done _ e in
+    let both = and_true (side_allowed shape.width) (side_allowed shape.height) (test_done _ Size sides) in
     record {
       width = side_high (holds both.0);
       height = side_high (holds both.1);
-      phase = leb_le _ 3 phase.0;
+      phase = leb_le _ 3 (test_done _ Phase phase);
     }
 
 pub count_passes : (shape : Shape) (count : ℕ) → count_answer shape count ≡ no_refusal → count ≡ shape.height * shape.width
 unfolding count_answer
-count_passes shape count e = eqb_eq _ _ (tested_done _ MosaicLength _ e).0
+count_passes shape count e = eqb_eq _ _ (test_done _ MosaicLength e)
 
 -- W·H of such a shape
 pub count_most : (shape : Shape) (count : ℕ) → shape_answer shape ≡ no_refusal → count_answer shape count ≡ no_refusal → count ≤ 16777216

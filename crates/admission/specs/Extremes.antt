@@ -108,7 +108,7 @@ none_above l h = done_samples l (λ n lt. omega (arith, most_highest l n lt))
 pub found_above : (l : List ℕ) (k : ℕ) → FirstOutside 0 1023 l k → k < length l → samples_answer l ≡ Err (Sample k)
 unfolding samples_answer highest_sample
 found_above l k o within =
-    first_fails 0 (λ z. leb z 1023) Sample l k within (λ n h. leb_yes (o.inside n h).1)
+    first_fails 0 (λ position z. leb z 1023) Sample l k within (λ n h. leb_yes (o.inside n h).1)
     (by_test (leb (get_or l k 0) 1023) _ (λ u. absurd (o.outside within (omega arith, leb_le _ _ u))) (λ u. u))
 
 pub first_above : (l : List ℕ) (k : ℕ) → 1023 < highest_of l → FirstOutside 0 1023 l k → samples_answer l ≡ Err (Sample k)
@@ -132,7 +132,7 @@ pub found_under : (b : ℕ) (l : List ℕ) (k : ℕ) → samples_answer l ≡ no
     → under_answer b l ≡ Err (UnderBlack k)
 unfolding under_answer most_under highest_sample
 found_under b l k high o within =
-    first_fails 0 (λ z. leb b (z + 64)) UnderBlack l k within (λ n h. leb_yes {m = b} {n = get_or l n 0 + 64} (omega (arith, (o.inside n h).0)))
+    first_fails 0 (λ position z. leb b (z + 64)) UnderBlack l k within (λ n h. leb_yes {m = b} {n = get_or l n 0 + 64} (omega (arith, (o.inside n h).0)))
     (by_test (leb b (get_or l k 0 + 64)) _
     (λ u.
     let from : b ≤ get_or l k 0 + 64 = leb_le _ _ u in

@@ -27,7 +27,7 @@ pub fn sample_count(shape: Shape) -> usize
 }
 
 // Numbers 1 and 2.
-#[tactic(auto, unfolding(crate::specs::ShapeTest::shape_answer, frame::specs::Sites::phase_allowed))]
+#[tactic(auto, unfolding(crate::specs::ShapeTest::shape_answer, answers::specs::Calls::in_order, frame::specs::Sites::phase_allowed))]
 pub fn test_shape(shape: Shape) -> Answer
     ensures { result ≡ shape_answer shape }
 {
@@ -41,7 +41,7 @@ pub fn test_shape(shape: Shape) -> Answer
 }
 
 // Whether W, H and the phase are allowed.
-#[tactic(auto, unfolding(crate::specs::ShapeTest::shape_allowed, crate::specs::ShapeTest::shape_answer))]
+#[tactic(auto, unfolding(crate::specs::ShapeTest::shape_allowed, crate::specs::ShapeTest::shape_answer, answers::specs::Calls::in_order))]
 pub fn shape_in_range(shape: Shape) -> bool
     ensures { result ≡ shape_allowed shape }
 {

@@ -1,11 +1,11 @@
 -- The stored files are as told, by one computation, and what is printed of files, by what read finds in them. Assumes
 -- nothing.
-use Rattle.std.specs.Prelude.{◌≡◌, refl}
+use Rattle.std.specs.Prelude.{◌≡◌, refl, Ok}
 use Rattle.toolkit.specs.Tables.{tabulate}
 use Rattle.toolkit.specs.Raster.{raster}
 use Rattle.toolkit.specs.Rounding.{round_half_up}
 use Rattle.frame.specs.Sites.{sample, highest_sample, side_allowed, phase_allowed, rggb, colour, reflect_once, reflect_times, reflect, around}
-use Rattle.answers.specs.Calls.{held, clamped, first_failing, samples_answer, answer_in_order, highest_black, black_answer, most_under, under_answer, lengths_fit, lengths_allowed, develop_answer}
+use Rattle.answers.specs.Calls.{held, clamped, first_failing, in_order, sides_answer, phase_answer, mosaic_answer, samples_answer, highest_black, black_answer, most_under, under_answer, lengths_fit, lengths_allowed, develop_answer}
 use Rattle.method.specs.Gradients.{mosaic, apart, taps, six_tap, six_tap_pair, eastbound, east_gradient, west_gradient, gradients, gradients_at}
 use Rattle.method.specs.Green.{line_estimate, horizontal_estimate, half, estimate, threshold, outcome, first_pass, outcome_at, green_or, less_eight, trial_difference, reach, sum_about, column_sum, horizontal_sum, vertical_sum, diagonal_sum, least_sum, second_pass, second_pass_at, chroma_decision_at, green_at}
 use Rattle.method.specs.Planes.{inner_round, one_if_zero, count_zeros, weight, weights, times, sum_of_four, weighted_sum, total, weighted_mean, green_difference, straight, mean_two_off, fusion_share, fused, final_difference, corners, diagonally, corner_gradients, chroma_site_difference, colour_difference, green_quarters, quarters, final_round, output, less_black, plane}
@@ -24,12 +24,12 @@ unfolding stored_cases zeros joined part File.packed File.check File.position_we
 stored_cases_hold = refl
 
 -- what read finds in K1's file, and that this frame is printed
-glaze_read : File.reading glaze_file 1024 ≡ File.accepted small_frame
-unfolding joined part zeros all_zero same_list side_allowed phase_allowed File.unpacked File.unpacked_payload File.block File.little_endian File.block_number File.stored_check File.check File.position_weighted_sum File.has_tag File.tag File.header File.header_filler File.payload File.block_filler File.stored_samples File.stored_frame File.length_allowed File.check_holds File.number_holds File.header_allowed File.filler_holds File.later_blocks File.reading File.file_length File.block_count
+glaze_read : File.reading glaze_file 1024 ≡ Ok small_frame
+unfolding joined part zeros all_zero same_list side_allowed phase_allowed File.unpacked File.unpacked_payload File.block File.little_endian File.block_number File.stored_check File.check File.position_weighted_sum File.has_tag File.tag File.header File.header_filler File.payload File.block_filler File.stored_samples File.stored_frame File.length_allowed File.check_holds File.number_holds File.header_allowed File.filler_holds File.block_tests File.read_tests File.reading in_order File.file_length File.block_count
 glaze_read = refl
 
 glaze_is_printed : printed Clamped glaze_file ≡ frame_text Clamped small_frame
-unfolding printed first_failing samples_answer answer_in_order side_allowed phase_allowed highest_sample highest_black black_answer most_under under_answer lengths_fit lengths_allowed develop_answer
+unfolding printed first_failing in_order sides_answer phase_answer mosaic_answer samples_answer side_allowed phase_allowed highest_sample highest_black black_answer most_under under_answer lengths_fit lengths_allowed develop_answer
 glaze_is_printed = rw (glaze_read) refl
 
 long_is_printed : printed Clamped long_file ≡ refusal_text BufferLength

@@ -27,7 +27,7 @@ fn hold_all(plane: &[i32], clamped: &mut [i32])
 }
 
 // Clamps a plane of any numbers into one of equal length. A refusal leaves `clamped` as it was.
-#[tactic(auto, unfolding(answers::specs::Calls::clamp_answer))]
+#[tactic(auto, unfolding(answers::specs::Calls::clamp_answer, answers::specs::Calls::in_order))]
 pub fn clamp(plane: &[i32], clamped: &mut [i32]) -> Answer
     ensures { ClampLeaves plane.now clamped.old result clamped.new }
 {

@@ -16,7 +16,7 @@ abbrev every_passes_with : Bool → List ℤ → Bool
 every_passes_with = fold (λ passed v. passed && not (unclamped v))
 
 all_pass_from : (b : Bool) (k : ℕ) (l : List ℤ) → every_passes_with b l ≡ true
-    → (b ≡ true) × (first_failing (λ v. not (unclamped v)) Unclamped k l ≡ no_refusal)
+    → (b ≡ true) × (first_failing (λ position v. not (unclamped v)) Unclamped k l ≡ no_refusal)
 unfolding first_failing
 all_pass_from b k [] e = (e, refl)
 all_pass_from b k (v ∷ l) e =
@@ -33,7 +33,7 @@ abbrev by_position : Option ℕ → Answer
 by_position None = no_refusal
 by_position (Some k) = Err (Unclamped k)
 
-found_from : (k : ℕ) (l : List ℤ) → first_failing (λ v. not (unclamped v)) Unclamped k l ≡ by_position (position_from unclamped k l)
+found_from : (k : ℕ) (l : List ℤ) → first_failing (λ position v. not (unclamped v)) Unclamped k l ≡ by_position (position_from unclamped k l)
 unfolding first_failing
 found_from k [] = refl
 found_from k (v ∷ l) = by_test (unclamped v) _ (λ t. rw t refl) (λ t. rw (t, add-one) (found_from (suc k) l))

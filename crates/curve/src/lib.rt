@@ -78,7 +78,7 @@ fn curve_all(plane: &[i32], curved: &mut [i32])
 }
 
 // Applies the curve to a clamped plane, into one of equal length. A refusal leaves `curved` as it was.
-#[tactic(auto, unfolding(answers::specs::Calls::curve_answer))]
+#[tactic(auto, unfolding(answers::specs::Calls::curve_answer, answers::specs::Calls::in_order))]
 pub fn curve(plane: &[i32], curved: &mut [i32]) -> Answer
     ensures { CurveLeaves plane.now curved.old result curved.new }
 {

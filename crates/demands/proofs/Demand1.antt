@@ -4,34 +4,27 @@
 use Rattle.std.specs.Prelude.{◌≡◌, refl, List, ℕ, eqb, ℤ, Err, Ok}
 use Rattle.std.proofs.Common.{◌∙◌, ap}
 use Rattle.std.proofs.Math.ListN.{length}
-use Rattle.answers.specs.declared.Refusal.TheVariants.{BufferLength}
 use Rattle.frame.specs.Sites.{Frame}
 use Rattle.answers.specs.Calls.{success, returned, returned_by_read, lengths_allowed, develop_answer, clamp_answer, Answer, ReadAnswer, no_refusal}
-use Rattle.frame_file.specs.FrameFile.{file_length, Reading, accepted, refused, answer_of, samples_of, reading, read_answer, samples_after_read, write_answer, file_after_write}
+use Rattle.frame_file.specs.FrameFile.{file_length, Reading, answer_of, samples_of, reading, read_answer, samples_after_read, write_answer, file_after_write}
 use Rattle.calls.specs.Buffers.{Buffers, buffers, lengths_of}
 use Rattle.calls.specs.WhatCallsLeave.{DevelopLeaves, ClampLeaves, CurveLeaves, ReadLeaves, WriteLeaves}
 use Rattle.demands.specs.CallsMade.{LengthsAllowed}
 use Rattle.demands.proofs.Acceptance.{lengths_yes, yes_lengths}
-use Rattle.demands.specs.Conditions.{both_ways, equal_decides, by_condition}
-use Rattle.demands.specs.Rows.{RowOfWrite, RowOfDevelop, RowOfClamp, RowOfCurve}
-use Rattle.demands.specs.Rows.{number_4, done}
-use Rattle.demands.proofs.Rows.{write_in_order, develop_in_order, curve_in_order}
-use Rattle.demands.specs.ReadRows.{RowOfRead}
+use Rattle.demands.specs.Conditions.{both_ways}
+use Rattle.demands.specs.Rows.{RowOf, develop_tests, write_tests, clamp_tests, curve_tests}
+use Rattle.demands.proofs.Rows.{develop_answer_row, write_answer_row, clamp_answer_row, curve_answer_row}
+use Rattle.demands.specs.ReadRows.{read_tests}
 use Rattle.demands.proofs.ReadRows.{reading_row}
 
 -- ---- develop
 
 module _ (f : Frame) (b : ℕ) (before : Buffers) where
-  answer_row : RowOfDevelop f b (LengthsAllowed f before) (returned (develop_answer f b (lengths_of before)))
-  unfolding develop_answer
-  answer_row =
-      develop_in_order f (lengths_allowed f (lengths_of before)) (LengthsAllowed f before)
-      (both_ways _ (lengths_yes f before) (yes_lengths f before)) b
-
   -- the number and place that develop returns are a row of the table
   pub develop_row : (answer : Answer) (left : Buffers) → DevelopLeaves f b before answer left
-      → RowOfDevelop f b (LengthsAllowed f before) (returned answer)
-  develop_row answer left call = rw call.answered answer_row
+      → RowOf (develop_tests f b (LengthsAllowed f before)) (returned answer)
+  develop_row answer left call =
+      rw call.answered (develop_answer_row f b (lengths_of before) (both_ways _ (lengths_yes f before) (yes_lengths f before)))
 
   -- and a refusal leaves the three planes, the map and the work buffer as they were
   pub develop_refusal : (answer : Answer) (left : Buffers) → DevelopLeaves f b before answer left → ¬ (returned answer ≡ success)
@@ -43,15 +36,9 @@ module _ (f : Frame) (b : ℕ) (before : Buffers) where
 -- ---- clamp
 
 module _ (numbers before : List ℤ) where
-  clamp_answer_row : RowOfClamp (length before ≡ length numbers) (returned (clamp_answer (length numbers) (length before)))
-  unfolding clamp_answer
-  clamp_answer_row =
-      by_condition (λ a. RowOfClamp (length before ≡ length numbers) (returned a)) no_refusal (Err BufferLength)
-      (equal_decides (length before) (length numbers)) done number_4
-
   pub clamp_row : (answer : Answer) (left : List ℤ) → ClampLeaves numbers before answer left
-      → RowOfClamp (length before ≡ length numbers) (returned answer)
-  clamp_row answer left call = rw call.answered clamp_answer_row
+      → RowOf (clamp_tests (length before ≡ length numbers)) (returned answer)
+  clamp_row answer left call = rw call.answered (clamp_answer_row (length numbers) (length before))
 
   pub clamp_refusal : (answer : Answer) (left : List ℤ) → ClampLeaves numbers before answer left → ¬ (returned answer ≡ success)
       → left ≡ before
@@ -62,8 +49,8 @@ module _ (numbers before : List ℤ) where
 
 module _ (numbers before : List ℤ) where
   pub curve_row : (answer : Answer) (left : List ℤ) → CurveLeaves numbers before answer left
-      → RowOfCurve numbers (length before ≡ length numbers) (returned answer)
-  curve_row answer left call = rw call.answered (curve_in_order numbers (length before))
+      → RowOf (curve_tests numbers (length before ≡ length numbers)) (returned answer)
+  curve_row answer left call = rw call.answered (curve_answer_row numbers (length before))
 
   pub curve_refusal : (answer : Answer) (left : List ℤ) → CurveLeaves numbers before answer left → ¬ (returned answer ≡ success)
       → left ≡ before
@@ -74,13 +61,13 @@ module _ (numbers before : List ℤ) where
 
 module _ (file before : List ℕ) where
   pub read_row : (answer : ReadAnswer) (left : List ℕ) → ReadLeaves file before answer left
-      → RowOfRead file (length before) (returned_by_read answer)
+      → RowOf (read_tests file (length before)) (returned_by_read answer)
   unfolding read_answer
   read_row answer left call = rw call.answered (reading_row file (length before))
 
   nothing_read : (o : Reading) → ¬ (returned_by_read (answer_of o) ≡ success) → samples_of o before ≡ before
-  nothing_read (accepted f) no_success = absurd (no_success refl)
-  nothing_read (refused why) no_success = refl
+  nothing_read (Ok f) no_success = absurd (no_success refl)
+  nothing_read (Err why) no_success = refl
 
   pub read_refusal : (answer : ReadAnswer) (left : List ℕ) → ReadLeaves file before answer left
       → ¬ (returned_by_read answer ≡ success) → left ≡ before
@@ -92,15 +79,9 @@ module _ (file before : List ℕ) where
 -- ---- write
 
 module _ (f : Frame) (before : List ℕ) where
-  write_answer_row : RowOfWrite f (length before ≡ file_length f) (returned (write_answer f (length before)))
-  unfolding write_answer
-  write_answer_row =
-      write_in_order f (eqb (length before) (file_length f)) (length before ≡ file_length f)
-      (equal_decides (length before) (file_length f))
-
   pub write_row : (answer : Answer) (left : List ℕ) → WriteLeaves f before answer left
-      → RowOfWrite f (length before ≡ file_length f) (returned answer)
-  write_row answer left call = rw call.answered write_answer_row
+      → RowOf (write_tests f (length before ≡ file_length f)) (returned answer)
+  write_row answer left call = rw call.answered (write_answer_row f (length before))
 
   pub write_refusal : (answer : Answer) (left : List ℕ) → WriteLeaves f before answer left → ¬ (returned answer ≡ success)
       → left ≡ before

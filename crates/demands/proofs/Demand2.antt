@@ -10,7 +10,7 @@ use Rattle.method.specs.Gradients.{mosaic}
 use Rattle.method.specs.Green.{decision_entry, decision_map}
 use Rattle.method.specs.Planes.{output, less_black, plane}
 use Rattle.frame_file.specs.Lists.{Below}
-use Rattle.frame_file.specs.FrameFile.{sample_count, shape_of, write_answer, Reading, accepted, refused, answer_of, reading, read_answer}
+use Rattle.frame_file.specs.FrameFile.{sample_count, shape_of, write_answer, Reading, answer_of, reading, read_answer}
 use Rattle.frame_file.proofs.AcceptedExactlyWhenWritten.{accepted_is_written}
 use Rattle.frame_file.proofs.ReadAndWrite.{Makes, written_makes, read_yields_what_write_makes}
 use Rattle.calls.specs.Buffers.{Buffers, plane_of}
@@ -83,10 +83,10 @@ module _ (f : Frame) (file : List ℕ) where
 module _ (file before : List ℕ) where
   found_made : Below 256 file → (o : Reading) → reading file (length before) ≡ o → returned_by_read (answer_of o) ≡ success
       → Made file (length before)
-  found_made bytes (accepted f) is e =
+  found_made bytes (Ok f) is e =
       let w = accepted_is_written file bytes (length before) f is in
       record { frame = f; made = makes_made f file (written_makes f file w.admitted w.written); enough = w.enough }
-  found_made bytes (refused why) is e = refused_not_done why (returned_done (Err why) e)
+  found_made bytes (Err why) is e = refused_not_done why (returned_done (Err why) e)
 
   module _ (answer : ReadAnswer) (left : List ℕ) (call : ReadCalled file before answer left) where
     -- "and reading yields that frame": W, H and the phase are returned, and the samples stand at the front of what was lent

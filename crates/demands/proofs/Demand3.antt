@@ -9,7 +9,7 @@ use Rattle.std.proofs.Math.Path.{ap}
 use mathlib.Core.List.{List, [], ◌∷◌}
 use Rattle.std.proofs.Math.ListN.{get_or}
 use Rattle.frame.specs.Sites.{Frame, Colour, red, green, blue, sample, colour, highest_sample, side_allowed, phase_allowed}
-use Rattle.answers.specs.Calls.{first_failing, samples_answer, answer_in_order, highest_black, black_answer, most_under, under_answer, lengths_fit, lengths_allowed, develop_answer, success, returned, NoneUnder}
+use Rattle.answers.specs.Calls.{first_failing, in_order, sides_answer, phase_answer, mosaic_answer, samples_answer, highest_black, black_answer, most_under, under_answer, lengths_fit, lengths_allowed, develop_answer, success, returned, NoneUnder}
 use Rattle.method.specs.Green.{decision_map}
 use Rattle.method.specs.Planes.{number_at, entry_at}
 use Rattle.correspondence.specs.Comparison.{Change, left_right, top_bottom, transposing, trading, changed, changed_by, row_after, column_after, name_after, count_transposes, transposes_oddly, exchanged_code, code_after, brightened, KeepsRange, SumsAreSamples, taken_off, NoneBelow}
@@ -183,9 +183,9 @@ K1_accepted_by : (b : ℕ) → returned (develop_answer K1_frame b (record { red
 K1_accepted_by b e = defined_accepted K1_frame b (accepted_by_any K1_frame b _ e)
 
 pub K1_accepted : AcceptedByDevelop K1_frame 0
-unfolding develop_answer answer_in_order lengths_allowed lengths_fit side_allowed phase_allowed black_answer highest_black samples_answer highest_sample under_answer most_under first_failing
+unfolding develop_answer in_order sides_answer phase_answer mosaic_answer lengths_allowed lengths_fit side_allowed phase_allowed black_answer highest_black samples_answer highest_sample under_answer most_under first_failing
 K1_accepted = K1_accepted_by 0 refl
 
 pub K1_accepted_at_100 : AcceptedByDevelop K1_frame 100
-unfolding develop_answer answer_in_order lengths_allowed lengths_fit side_allowed phase_allowed black_answer highest_black samples_answer highest_sample under_answer most_under first_failing
+unfolding develop_answer in_order sides_answer phase_answer mosaic_answer lengths_allowed lengths_fit side_allowed phase_allowed black_answer highest_black samples_answer highest_sample under_answer most_under first_failing
 K1_accepted_at_100 = K1_accepted_by 100 refl

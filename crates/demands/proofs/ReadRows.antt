@@ -1,18 +1,19 @@
--- What read answers is a row of the table, with its condition. Assumes nothing.
-use Rattle.std.specs.Prelude.{◌≡◌, Bool, List, [], ◌∷◌, get_or, drop}
+-- What read answers is a row of its table. Assumes nothing.
+use Rattle.std.specs.Prelude.{◌≡◌, refl, List, [], ◌∷◌, get_or, drop, Ok, Err}
 use Rattle.std.proofs.Common.{ap, subst, sym, ◌∙◌, ⊎_elim, eq-or-lt_of_le, le_of_suc-le-suc, arith, length-drop, get_or-drop}
 use Prim.Native.Nat.{ℕ, zero, suc, ◌+◌, ◌*◌, ◌-◌, ◌%◌, ◌<◌, ◌≤◌}
 use Rattle.std.proofs.Math.ListN.{length}
-use Rattle.answers.specs.declared.Refusal.{Refusal}
 use Rattle.answers.specs.declared.Refusal.TheVariants.{BufferLength, FileLength, Check, Header, BlockNumber, Filler}
 use Rattle.frame.specs.Sites.{Frame, phase_allowed}
-use Rattle.answers.specs.Calls.{number_and_place, returned_by_read}
+use Rattle.answers.specs.Calls.{returned, returned_by_read, and_then, in_order, Answer}
 use Rattle.frame_file.specs.Lists.{part, all_zero, same_list, same_list_self, same_list_equal}
-use Rattle.frame_file.specs.FrameFile.{sample_count, block, block_number, check, stored_check, tag, has_tag, header, header_filler, payload, block_filler, block_count, file_length, unpacked_payload, stored_frame, Reading, refused, answer_of, tested, length_allowed, check_holds, number_holds, header_allowed, filler_holds, later_blocks, reading}
-use Rattle.frame_file.proofs.BlockCount.{some_blocks}
+use Rattle.frame_file.specs.FrameFile.{sample_count, block, block_number, check, stored_check, tag, has_tag, header, header_filler, payload, block_filler, block_count, file_length, unpacked_payload, stored_frame, answer_of, length_allowed, check_holds, number_holds, header_allowed, filler_holds, reading}
+use Rattle.frame_file.specs.FrameFile as File
 use Rattle.frame_file.proofs.Raw10.{length_unpacked_payload}
-use Rattle.demands.specs.Conditions.{Decides, holds, both_ways, same_decides, both_decide, equal_decides, at_most_decides, side_decides, by_condition}
-use Rattle.demands.specs.ReadRows.{LengthAllowed, CheckHolds, NumberHolds, HeaderAllowed, AllZero, FillerZero, FrontHolds, BlockHolds, ComesTo, RowOfRead, done, number_10_first, number_10_later, number_4, number_6_count, number_6_length, number_7_first, number_7_later, number_8, number_9_first, number_9_later}
+use Rattle.demands.specs.Conditions.{Decides, holds, both_ways, same_decides, both_decide, equal_decides, at_most_decides, side_decides}
+use Rattle.demands.specs.Rows.{RowOf}
+use Rattle.demands.specs.ReadRows.{LengthAllowed, CheckHolds, NumberHolds, HeaderAllowed, AllZero, FillerZero, block_tests, read_tests}
+use Rattle.demands.proofs.Rows.{AllTold, none, next, told, is_a_row}
 
 -- ---- laws: lists
 
@@ -93,43 +94,35 @@ module _ (file : List ℕ) where
 
 -- ---- laws: read
 
-module _ (file : List ℕ) (room : ℕ) where
-  abbrev RowOf : Reading → Type 0
-  RowOf o = RowOfRead file room (returned_by_read (answer_of o))
+module _ (file : List ℕ) where
+  blocks_told : (n left : ℕ) → AllTold (block_tests file n left) (File.block_tests file (sample_count (stored_frame file)) n left)
+  unfolding block_tests File.block_tests
+  blocks_told n zero = none
+  blocks_told n (suc left) =
+      next (told (Check n) (check_decides file n))
+      (next (told (BlockNumber n) (number_decides file n))
+      (next (told (Filler n) (filler_decides file n)) (blocks_told (suc n) left)))
 
-  tested_row : {P : Type 0} {test : Bool} (why : Refusal) (rest : Reading) → Decides P test
-      → (¬ P → RowOfRead file room (number_and_place why)) → (P → RowOf rest) → RowOf (tested test why rest)
-  tested_row why rest decides here later = by_condition RowOf rest (refused why) decides later here
-
-  next_block : (n : ℕ) → ((m : ℕ) → 1 ≤ m → m < n → BlockHolds file m) → BlockHolds file n
-      → (m : ℕ) → 1 ≤ m → m < suc n → BlockHolds file m
-  next_block n before here m h l =
-      ⊎_elim (λ (e : m ≡ n). rw e here) (λ (k : m < n). before m h k) (eq-or-lt_of_le (le_of_suc-le-suc l))
-
-  -- the blocks from n on, where all before block n holds
-  later_row : (n left : ℕ) → FrontHolds file room → 1 ≤ n → n + left ≡ block_count (sample_count (stored_frame file))
-      → ((m : ℕ) → 1 ≤ m → m < n → BlockHolds file m) → RowOf (later_blocks file (stored_frame file) n left)
-  unfolding later_blocks
-  later_row n zero front later counted before = done front (λ m h l. before m h (omega arith))
-  later_row n (suc left) front later counted before =
-      let comes : ComesTo file room n = record { front = front; later = later; counted = omega arith; before = before } in
-      tested_row (Check n) _ (check_decides file n) (number_7_later n comes)
-      (λ c. tested_row (BlockNumber n) _ (number_decides file n) (number_9_later n comes c)
-      (λ b. tested_row (Filler n) _ (filler_decides file n) (number_10_later n comes c b)
-      (λ z. later_row (suc n) left front (omega arith) (omega arith)
-      (next_block n before (record { check = c; number = b; filler = z })))))
-
-  pub reading_row : RowOfRead file room (returned_by_read (answer_of (reading file room)))
-  unfolding reading
-  reading_row =
+  tests_told : (room : ℕ) → AllTold (read_tests file room) (File.read_tests file room)
+  unfolding read_tests File.read_tests
+  tests_told room =
       let f : Frame = stored_frame file in
-      tested_row FileLength _ (length_decides file) number_6_length
-      (λ s. tested_row (Check 0) _ (check_decides file 0) (number_7_first s)
-      (λ c. tested_row (BlockNumber 0) _ (number_decides file 0) (number_9_first s c)
-      (λ b. tested_row Header _ (header_decides file) (number_8 s c b)
-      (λ h. tested_row (Filler 0) _ (zero_decides (header_filler (block file 0))) (number_10_first s c b h)
-      (λ z. tested_row FileLength _ (equal_decides (length file) (file_length f)) (number_6_count s c b h z)
-      (λ n. tested_row BufferLength _ (at_most_decides (sample_count f) room) (number_4 s c b h z n)
-      (λ r. later_row 1 (block_count (sample_count f) - 1)
-      (record { size = s; check = c; number = b; header = h; filler = z; count = n; enough = r })
-      (omega arith) (omega (arith, some_blocks (sample_count f))) (λ m h l. absurd (omega arith)))))))))
+      next (told FileLength (length_decides file))
+      (next (told (Check 0) (check_decides file 0))
+      (next (told (BlockNumber 0) (number_decides file 0))
+      (next (told Header (header_decides file))
+      (next (told (Filler 0) (zero_decides (header_filler (block file 0))))
+      (next (told FileLength (equal_decides (length file) (file_length f)))
+      (next (told BufferLength (at_most_decides (sample_count f) room))
+      (blocks_told 1 (block_count (sample_count f) - 1))))))))
+
+-- what is read after the tests changes neither number nor place
+returned_after : (a : Answer) (f : Frame) → returned a ≡ returned_by_read (answer_of (and_then a (Ok f)))
+returned_after (Ok _) f = refl
+returned_after (Err why) f = refl
+
+pub reading_row : (file : List ℕ) (room : ℕ) → RowOf (read_tests file room) (returned_by_read (answer_of (reading file room)))
+unfolding reading
+reading_row file room =
+    subst (RowOf (read_tests file room)) (returned_after (in_order (File.read_tests file room)) (stored_frame file))
+    (is_a_row (tests_told file room))

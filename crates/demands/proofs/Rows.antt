@@ -1,4 +1,5 @@
--- What develop, write and curve answer is a row of the table, with its conditions. `ReadRows` has the same for read. Assumes nothing.
+-- What a call answers by its tests in order is a row of the table, for any tests; and the tests of develop, write, clamp and curve.
+-- `ReadRows` has those of read. Assumes nothing.
 use Rattle.std.specs.Prelude.{◌≡◌, refl, ◌⊎◌, Bool, true, false, not, ◌&&◌, ◌||◌, ℕ, zero, suc, ◌+◌, ◌*◌, ◌<◌, ◌≤◌, ℤ, pos, ◌<ℤ◌, length, get_or, Err}
 use Rattle.std.proofs.Common.{subst, arith, inl, inr}
 use Rattle.std.specs.Int.Signed.{lt_z}
@@ -7,9 +8,11 @@ use mathlib.Core.List.{List, [], ◌∷◌}
 use Rattle.answers.specs.declared.Refusal.{Refusal}
 use Rattle.answers.specs.declared.Refusal.TheVariants.{Size, Phase, MosaicLength, BufferLength, Sample, BlackLevel, UnderBlack, Unclamped}
 use Rattle.frame.specs.Sites.{Frame, side_allowed, phase_allowed, highest_sample}
-use Rattle.answers.specs.Calls.{Returned, number_and_place, returned, tested, and_then, first_failing, samples_answer, answer_in_order, highest_black, black_answer, most_under, under_answer, unclamped, unclamped_answer, curve_answer, Answer, no_refusal, Clamped}
-use Rattle.demands.specs.Conditions.{Decides, same_decides, both_decide, equal_decides, at_most_decides, not_below_decides, side_decides, by_condition}
-use Rattle.demands.specs.Rows.{SidesAllowed, RowOfWrite, RowOfDevelop, RowOfCurve, done, number_1, number_11, number_12, number_13, number_2, number_3, number_4, number_5}
+use Rattle.answers.specs.Calls.{Returned, number_and_place, returned, test, and_then, in_order, first_failing, sides_answer, phase_answer, mosaic_answer, samples_answer, lengths_allowed, develop_answer, clamp_answer, highest_black, black_answer, most_under, under_answer, unclamped, unclamped_answer, curve_answer, Answer, no_refusal, Clamped}
+use Rattle.answers.specs.declared.Lengths.{Lengths}
+use Rattle.frame_file.specs.FrameFile.{file_length, write_answer}
+use Rattle.demands.specs.Conditions.{Decides, holds, fails, same_decides, both_decide, equal_decides, at_most_decides, not_below_decides, side_decides, by_condition}
+use Rattle.demands.specs.Rows.{row, Test, RowOf, refused_here, later, done, unless, FirstNot, each, SidesAllowed, develop_tests, write_tests, clamp_tests, curve_tests}
 
 -- ---- laws: the sides
 
@@ -53,68 +56,98 @@ module _ {A : Type 0} (d : A) (P : A → Type 0) (why : ℕ → Refusal) where
       (first_fails 0 (omega arith) refuted (λ m h. absurd (omega arith)))
 
   entries_are : (test : A → Bool) → ((z : A) → Decides (P z) (test z)) → (l : List A) (position : ℕ)
-      → EntriesAre d P why l position (first_failing test why position l)
+      → EntriesAre d P why l position (first_failing (λ position z. test z) why position l)
   unfolding first_failing
   entries_are test decides [] position = all_meet (λ k h. absurd (omega arith))
   entries_are test decides (z ∷ l) position =
-      by_condition (EntriesAre d P why (z ∷ l) position) _ _ (decides z)
+      by_condition (λ a. EntriesAre d P why (z ∷ l) position (and_then a (first_failing (λ position z. test z) why (suc position) l))) _ _
+      (decides z)
       (λ here. next_entry z l position here (entries_are test decides l (suc position)))
       (this_entry z l position)
 
--- what follows in either case
-by_entries : {A : Type 0} {d : A} {P : A → Type 0} {why : ℕ → Refusal} {l : List A} {a : Answer} (Q : Answer → Type 0)
-    → EntriesAre d P why l 0 a
-    → ((k : ℕ) → k < length l → ¬ P (get_or l k d) → ((m : ℕ) → m < k → P (get_or l m d)) → Q (Err (why k)))
-    → (((k : ℕ) → k < length l → P (get_or l k d)) → Q no_refusal) → Q a
-by_entries Q (all_meet each) here later = later each
-by_entries Q (first_fails k h refuted before) here later =
-    let e : 0 + k ≡ k = omega arith in rw e (here k h refuted before)
+-- ---- laws: any tests in order
 
--- ---- laws: the rows
+-- an answer is that of a test
+pub data Told (t : Test) : Answer → Type 0 where
+  refuses : {why : Refusal} → t.Refuses (number_and_place why) → Told t (Err why)
+  passes : t.Passes → Told t no_refusal
 
-module _ (Row : Returned → Type 0) where
-  tested_row : {P : Type 0} {test : Bool} (why : Refusal) (rest : Answer) → Decides P test → (¬ P → Row (number_and_place why))
-      → (P → Row (returned rest)) → Row (returned (tested test why rest))
-  tested_row why rest decides here later = by_condition (λ a. Row (returned a)) rest (Err why) decides later here
+pub data AllTold : List Test → List Answer → Type 1 where
+  none : AllTold [] []
+  next : {t : Test} {a : Answer} {tests : List Test} {answers : List Answer} → Told t a → AllTold tests answers → AllTold (t ∷ tests) (a ∷ answers)
 
-  and_then_row : {P : Type 0} {test : Bool} (why : Refusal) (rest : Answer) → Decides P test → (¬ P → Row (number_and_place why))
-      → (P → Row (returned rest)) → Row (returned (and_then (tested test why no_refusal) rest))
-  and_then_row why rest decides here later =
-      by_condition (λ a. Row (returned (and_then a rest))) no_refusal (Err why) decides later here
+pub is_a_row : {tests : List Test} {answers : List Answer} → AllTold tests answers → RowOf tests (returned (in_order answers))
+unfolding in_order
+is_a_row none = done
+is_a_row (next (refuses r) rest) = refused_here r
+is_a_row (next (passes p) rest) = later p (is_a_row rest)
 
-module _ (f : Frame) (others : Bool) (Allowed : Type 0) (decides : Decides Allowed others) where
-  range_is : EntriesAre 0 (λ z. z ≤ 1023) Sample f.samples 0 (samples_answer f.samples)
+pub told : {P : Type 0} {holds_it : Bool} (why : Refusal) → Decides P holds_it → Told (unless P (number_and_place why)) (test holds_it why)
+told why (holds p) = passes p
+told why (fails n) = refuses (refl, n)
+
+each_told : {A : Type 0} {d : A} {P : A → Type 0} {why : ℕ → Refusal} {l : List A} {a : Answer} (number : ℕ)
+    → ((k : ℕ) → number_and_place (why k) ≡ row number k) → EntriesAre d P why l 0 a → Told (each d P l number) a
+each_told number is (all_meet all) = passes all
+each_told {why} number is (first_fails k h refuted before) =
+    let e : 0 + k ≡ k = omega arith in
+    rw e (refuses {why = why k} (record { position = k; inside = h; is_not = refuted; before = before; returned_is = is k }))
+
+-- ---- laws: the tests of a frame
+
+module _ (f : Frame) where
+  sides_told : Told (unless (SidesAllowed f) (row 1 0)) (sides_answer f)
+  unfolding sides_answer
+  sides_told = told Size (sides_decide f)
+
+  phase_told : Told (unless (f.phase ≤ 3) (row 2 0)) (phase_answer f)
+  unfolding phase_answer phase_allowed
+  phase_told = told Phase (at_most_decides f.phase 3)
+
+  mosaic_told : Told (unless (length f.samples ≡ f.height * f.width) (row 3 0)) (mosaic_answer f)
+  unfolding mosaic_answer
+  mosaic_told = told MosaicLength (equal_decides (length f.samples) (f.height * f.width))
+
+  samples_told : Told (each 0 (λ z. z ≤ 1023) f.samples 5) (samples_answer f.samples)
   unfolding samples_answer highest_sample
-  range_is = entries_are 0 (λ z. z ≤ 1023) Sample _ (λ z. at_most_decides z 1023) f.samples 0
+  samples_told = each_told 5 (λ k. refl) (entries_are 0 (λ z. z ≤ 1023) Sample _ (λ z. at_most_decides z 1023) f.samples 0)
 
-  under_is : (b : ℕ) → EntriesAre 0 (λ z. b ≤ z + 64) UnderBlack f.samples 0 (under_answer b f.samples)
-  unfolding under_answer most_under
-  under_is b = entries_are 0 (λ z. b ≤ z + 64) UnderBlack _ (λ z. at_most_decides b (z + 64)) f.samples 0
+black_told : (b : ℕ) → Told (unless (b ≤ 255) (row 11 0)) (black_answer b)
+unfolding black_answer highest_black
+black_told b = told BlackLevel (at_most_decides b 255)
 
-  pub write_in_order : RowOfWrite f Allowed (returned (answer_in_order f no_refusal others no_refusal))
-  unfolding answer_in_order phase_allowed
-  write_in_order =
-      let Row : Returned → Type 0 = RowOfWrite f Allowed in
-      tested_row Row Size _ (sides_decide f) number_1
-      (λ s. tested_row Row Phase _ (at_most_decides f.phase 3) (λ p. number_2 s (omega arith))
-      (λ p. tested_row Row MosaicLength _ (equal_decides (length f.samples) (f.height * f.width)) (number_3 s p)
-      (λ m. tested_row Row BufferLength _ decides (number_4 s p m)
-      (λ o. by_entries (λ a. Row (returned (and_then a no_refusal))) range_is
-      (λ k h above. number_5 s p m o k h (omega arith)) (done s p m o)))))
+under_told : (b : ℕ) (samples : List ℕ) → Told (each 0 (λ z. b ≤ z + 64) samples 12) (under_answer b samples)
+unfolding under_answer most_under
+under_told b samples = each_told 12 (λ k. refl) (entries_are 0 (λ z. b ≤ z + 64) UnderBlack _ (λ z. at_most_decides b (z + 64)) samples 0)
 
-  pub develop_in_order : (b : ℕ)
-      → RowOfDevelop f b Allowed (returned (answer_in_order f (black_answer b) others (under_answer b f.samples)))
-  unfolding answer_in_order phase_allowed black_answer highest_black
-  develop_in_order b =
-      let Row : Returned → Type 0 = RowOfDevelop f b Allowed in
-      tested_row Row Size _ (sides_decide f) number_1
-      (λ s. tested_row Row Phase _ (at_most_decides f.phase 3) (λ p. number_2 s (omega arith))
-      (λ p. and_then_row Row BlackLevel _ (at_most_decides b 255) (λ l. number_11 s p (omega arith))
-      (λ l. tested_row Row MosaicLength _ (equal_decides (length f.samples) (f.height * f.width)) (number_3 s p l)
-      (λ m. tested_row Row BufferLength _ decides (number_4 s p l m)
-      (λ o. by_entries (λ a. Row (returned (and_then a (under_answer b f.samples)))) range_is
-      (λ k h above. number_5 s p l m o k h (omega arith))
-      (λ r. by_entries (λ a. Row (returned a)) (under_is b) (λ k h under. number_12 s p l m o r k h (omega arith)) (done s p l m o r)))))))
+-- ---- laws: the rows of each call
+
+module _ (f : Frame) (b : ℕ) (l : Lengths) {Allowed : Type 0} (lengths_decide : Decides Allowed (lengths_allowed f l)) where
+  pub develop_answer_row : RowOf (develop_tests f b Allowed) (returned (develop_answer f b l))
+  unfolding develop_tests develop_answer
+  develop_answer_row =
+      is_a_row
+      (next (sides_told f)
+      (next (phase_told f)
+      (next (black_told b)
+      (next (mosaic_told f)
+      (next (told BufferLength lengths_decide)
+      (next (samples_told f)
+      (next (under_told b f.samples) none)))))))
+
+pub write_answer_row : (f : Frame) (lent : ℕ) → RowOf (write_tests f (lent ≡ file_length f)) (returned (write_answer f lent))
+unfolding write_tests write_answer
+write_answer_row f lent =
+    is_a_row
+    (next (sides_told f)
+    (next (phase_told f)
+    (next (mosaic_told f)
+    (next (told BufferLength (equal_decides lent (file_length f)))
+    (next (samples_told f) none)))))
+
+pub clamp_answer_row : (numbers filled : ℕ) → RowOf (clamp_tests (filled ≡ numbers)) (returned (clamp_answer numbers filled))
+unfolding clamp_tests clamp_answer
+clamp_answer_row numbers filled = is_a_row (next (told BufferLength (equal_decides filled numbers)) none)
 
 -- ---- laws: curve
 
@@ -127,17 +160,11 @@ unfolding unclamped highest_sample
 clamped_decides v =
     rw (not_either (lt_z v (pos 0)) (lt_z (pos 1023) v)) (both_decide (not_below_decides v (pos 0)) (not_below_decides (pos 1023) v))
 
-below_or_above : (v : ℤ) → ¬ Clamped v → (v <ℤ pos 0) ⊎ (pos 1023 <ℤ v)
-below_or_above v refuted = by_lt_z v (pos 0) inl (λ low. by_lt_z (pos 1023) v inr (λ high. absurd (refuted (low, high))))
+numbers_told : (numbers : List ℤ) → Told (each (pos 0) Clamped numbers 13) (unclamped_answer numbers)
+unfolding unclamped_answer
+numbers_told numbers = each_told 13 (λ k. refl) (entries_are (pos 0) Clamped Unclamped _ clamped_decides numbers 0)
 
-module _ (numbers : List ℤ) (filled : ℕ) where
-  numbers_are : EntriesAre (pos 0) Clamped Unclamped numbers 0 (unclamped_answer numbers)
-  unfolding unclamped_answer
-  numbers_are = entries_are (pos 0) Clamped Unclamped _ clamped_decides numbers 0
-
-  pub curve_in_order : RowOfCurve numbers (filled ≡ length numbers) (returned (curve_answer numbers filled))
-  unfolding curve_answer
-  curve_in_order =
-      let Row : Returned → Type 0 = RowOfCurve numbers (filled ≡ length numbers) in
-      tested_row Row BufferLength _ (equal_decides filled (length numbers)) number_4
-      (λ a. by_entries (λ x. Row (returned x)) numbers_are (λ k h out. number_13 a k h (below_or_above _ out)) (done a))
+pub curve_answer_row : (numbers : List ℤ) (filled : ℕ) → RowOf (curve_tests numbers (filled ≡ length numbers)) (returned (curve_answer numbers filled))
+unfolding curve_tests curve_answer
+curve_answer_row numbers filled =
+    is_a_row (next (told BufferLength (equal_decides filled (length numbers))) (next (numbers_told numbers) none))

@@ -6,7 +6,7 @@ use Rattle.std.proofs.Math.Arith.{digits_lt}
 use Rattle.std.proofs.lemmas.List.{get_or-map, length-map}
 use Rattle.toolkit.specs.Tests.{eqb_yes}
 use Rattle.frame.specs.Sites.{Frame, Colour, red, green, blue}
-use Rattle.answers.specs.Calls.{success, returned, clamp_answer, held, clamped, unclamped_answer, Answer, Clamped}
+use Rattle.answers.specs.Calls.{in_order, success, returned, clamp_answer, held, clamped, unclamped_answer, Answer, Clamped}
 use Rattle.answers.proofs.Admission.{returned_done}
 use Rattle.answers.proofs.Clamped.{thirteen_in_figures, equal_lengths, curve_done}
 use Rattle.correspondence.specs.Comparison.{Change, changed_by, row_after, column_after, name_after}
@@ -91,7 +91,7 @@ order_kept call other m n hm hn h =
 module _ (numbers before : List ℤ) (answer : Answer) (left : List ℤ) where
   -- clamp returns 0, 0 for any numbers where the lengths are equal
   pub equal_lengths_clamped : ClampLeaves numbers before answer left → length before ≡ length numbers → returned answer ≡ success
-  unfolding clamp_answer
+  unfolding clamp_answer in_order
   equal_lengths_clamped call same = rw (call.answered, eqb_yes {m = length before} {n = length numbers} same)
 
 module _ {numbers : List ℤ} (clamping : PlaneClamped numbers) where

@@ -1,12 +1,10 @@
--- Document 01, the table "returned: number, place", for read: row by row with its condition, in the order in which read tests.
--- Definitions alone. Assumes nothing.
-use Rattle.std.specs.Prelude.{◌≡◌, List, get_or}
-use Prim.Native.Nat.{ℕ, ◌+◌, ◌*◌, ◌-◌, ◌%◌, ◌<◌, ◌≤◌}
+-- Document 01, the table "returned: number, place", for read: its tests in order, each with its condition. Definitions alone. Assumes nothing.
+use Rattle.std.specs.Prelude.{◌≡◌, List, [], ◌∷◌, get_or}
+use Prim.Native.Nat.{ℕ, zero, suc, ◌+◌, ◌*◌, ◌-◌, ◌%◌, ◌<◌, ◌≤◌}
 use Rattle.std.proofs.Math.ListN.{length}
-use Rattle.answers.specs.Calls.{Returned, success}
 use Rattle.frame_file.specs.Lists.{part}
 use Rattle.frame_file.specs.FrameFile.{sample_count, block, block_number, check, stored_check, tag, header_filler, payload, block_filler, block_count, file_length, unpacked_payload, stored_frame}
-use Rattle.demands.specs.Rows.{row, SidesAllowed}
+use Rattle.demands.specs.Rows.{row, Test, unless, SidesAllowed}
 
 -- ---- the conditions; W, H and the phase are those of the header
 
@@ -51,49 +49,25 @@ pub record FillerZero (file : List ℕ) (n : ℕ) : Type 0 where
   pub samples : (k : ℕ) → k < 400 → sample_count (stored_frame file) ≤ 400 * (n - 1) + k
       → get_or (unpacked_payload (payload file n)) k 0 ≡ 0
 
--- ---- what holds up to a place
+-- ---- the tests of read
 
--- of length, block 0, count and room
-pub record FrontHolds (file : List ℕ) (room : ℕ) : Type 0 where
-  pub size : LengthAllowed file
-  pub check : CheckHolds file 0
-  pub number : NumberHolds file 0
-  pub header : HeaderAllowed file
-  pub filler : HeaderFillerZero file
-  pub count : CountHolds file
-  pub enough : RoomHolds file room
+-- blocks n, n + 1, .., so many of them, "each for 7, 9, 10."
+unfoldable pub block_tests : List ℕ → ℕ → ℕ → List Test
+block_tests file n zero = []
+block_tests file n (suc left) =
+    unless (CheckHolds file n) (row 7 n)
+    ∷ unless (NumberHolds file n) (row 9 n)
+    ∷ unless (FillerZero file n) (row 10 n)
+    ∷ block_tests file (suc n) left
 
--- of a later block
-pub record BlockHolds (file : List ℕ) (n : ℕ) : Type 0 where
-  pub check : CheckHolds file n
-  pub number : NumberHolds file n
-  pub filler : FillerZero file n
-
--- n is a later block of the file, and all before it holds
-pub record ComesTo (file : List ℕ) (room n : ℕ) : Type 0 where
-  pub front : FrontHolds file room
-  pub later : 1 ≤ n
-  pub counted : n < block_count (sample_count (stored_frame file))
-  pub before : (m : ℕ) → 1 ≤ m → m < n → BlockHolds file m
-
--- ---- the rows
-
--- "Read tests length, then block 0 for 7, 9, 8, 10, then the count (6), then 4, then blocks 1, 2, .. each for 7, 9, 10.": each row with its
--- condition, where the conditions of the rows before it do not hold
-pub data RowOfRead (file : List ℕ) (room : ℕ) : Returned → Type 0 where
-  number_6_length : ¬ LengthAllowed file → RowOfRead file room (row 6 0)
-  number_7_first : LengthAllowed file → ¬ CheckHolds file 0 → RowOfRead file room (row 7 0)
-  number_9_first : LengthAllowed file → CheckHolds file 0 → ¬ NumberHolds file 0 → RowOfRead file room (row 9 0)
-  number_8 : LengthAllowed file → CheckHolds file 0 → NumberHolds file 0 → ¬ HeaderAllowed file → RowOfRead file room (row 8 0)
-  number_10_first : LengthAllowed file → CheckHolds file 0 → NumberHolds file 0 → HeaderAllowed file
-      → ¬ HeaderFillerZero file → RowOfRead file room (row 10 0)
-  number_6_count : LengthAllowed file → CheckHolds file 0 → NumberHolds file 0 → HeaderAllowed file → HeaderFillerZero file
-      → ¬ CountHolds file → RowOfRead file room (row 6 0)
-  number_4 : LengthAllowed file → CheckHolds file 0 → NumberHolds file 0 → HeaderAllowed file → HeaderFillerZero file
-      → CountHolds file → ¬ RoomHolds file room → RowOfRead file room (row 4 0)
-  number_7_later : (n : ℕ) → ComesTo file room n → ¬ CheckHolds file n → RowOfRead file room (row 7 n)
-  number_9_later : (n : ℕ) → ComesTo file room n → CheckHolds file n → ¬ NumberHolds file n → RowOfRead file room (row 9 n)
-  number_10_later : (n : ℕ) → ComesTo file room n → CheckHolds file n → NumberHolds file n → ¬ FillerZero file n
-      → RowOfRead file room (row 10 n)
-  done : FrontHolds file room → ((n : ℕ) → 1 ≤ n → n < block_count (sample_count (stored_frame file)) → BlockHolds file n)
-      → RowOfRead file room success
+-- "Read tests length, then block 0 for 7, 9, 8, 10, then the count (6), then 4, then blocks 1, 2, .. each for 7, 9, 10."
+unfoldable pub read_tests : List ℕ → ℕ → List Test
+read_tests file room =
+    unless (LengthAllowed file) (row 6 0)
+    ∷ unless (CheckHolds file 0) (row 7 0)
+    ∷ unless (NumberHolds file 0) (row 9 0)
+    ∷ unless (HeaderAllowed file) (row 8 0)
+    ∷ unless (HeaderFillerZero file) (row 10 0)
+    ∷ unless (CountHolds file) (row 6 0)
+    ∷ unless (RoomHolds file room) (row 4 0)
+    ∷ block_tests file 1 (block_count (sample_count (stored_frame file)) - 1)

@@ -1,13 +1,41 @@
--- Document 01, the table "returned: number, place", for develop, write, clamp and curve: row by row with its conditions, in document 02's order.
--- `ReadRows` has the rows of read. Definitions alone. Assumes nothing.
-use Rattle.std.specs.Prelude.{◌≡◌, ◌⊎◌, List, ℕ, ◌+◌, ◌*◌, ◌<◌, ◌≤◌, ℤ, pos, ◌<ℤ◌, length, get_or}
+-- Document 01, the table "returned: number, place", as the tests of each call in order, those of document 02 among them: a row is that of a
+-- test which the tests before it let through. `ReadRows` has the tests of read. Definitions alone. Assumes nothing.
+use Rattle.std.specs.Prelude.{◌≡◌, List, [], ◌∷◌, ℕ, ◌+◌, ◌*◌, ◌<◌, ◌≤◌, ℤ, pos, length, get_or}
 use Rattle.frame.specs.Sites.{Frame}
 use Rattle.answers.specs.Calls.{Returned, success, Clamped}
 
 abbrev pub row : ℕ → ℕ → Returned
 row number place = record { number = number; place = place }
 
--- ---- the rows of write and of develop
+-- ---- tests in order
+
+-- which rows a test gives, each with its condition, and what holds where it gives none
+pub record Test : Type 1 where
+  pub Refuses : Returned → Type 0
+  pub Passes : Type 0
+
+-- the row of the first test that gives one; 0, 0 where none does
+pub data RowOf : List Test → Returned → Type 1 where
+  refused_here : {t : Test} {rest : List Test} {r : Returned} → t.Refuses r → RowOf (t ∷ rest) r
+  later : {t : Test} {rest : List Test} {r : Returned} → t.Passes → RowOf rest r → RowOf (t ∷ rest) r
+  done : RowOf [] success
+
+-- one row, where P does not hold
+abbrev pub unless : Type 0 → Returned → Test
+unless P r = record { Refuses = λ q. (q ≡ r) × ¬ P; Passes = P }
+
+-- the row of the first entry that does not meet P, with its position; d stands for one past the end
+pub record FirstNot {A : Type 0} (d : A) (P : A → Type 0) (l : List A) (number : ℕ) (r : Returned) : Type 0 where
+  pub position : ℕ
+  pub inside : position < length l
+  pub is_not : ¬ P (get_or l position d)
+  pub before : (m : ℕ) → m < position → P (get_or l m d)
+  pub returned_is : r ≡ row number position
+
+abbrev pub each : {A : Type 0} → A → (A → Type 0) → List A → ℕ → Test
+each d P l number = record { Refuses = FirstNot d P l number; Passes = (k : ℕ) → k < length l → P (get_or l k d) }
+
+-- ---- the tests of develop, write, clamp and curve; `Allowed` says that the other lent buffers have the lengths that they must have
 
 pub record SidesAllowed (f : Frame) : Type 0 where
   pub width_low : 2 ≤ f.width
@@ -15,52 +43,31 @@ pub record SidesAllowed (f : Frame) : Type 0 where
   pub height_low : 2 ≤ f.height
   pub height_high : f.height ≤ 4096
 
--- write, "The order is 1 to 5.": each row with its condition, where the conditions of the rows before it do not hold; `Allowed` says that
--- the other lent buffers have the lengths that they must have
-pub data RowOfWrite (f : Frame) (Allowed : Type 0) : Returned → Type 0 where
-  number_1 : ¬ SidesAllowed f → RowOfWrite f Allowed (row 1 0)
-  number_2 : SidesAllowed f → 3 < f.phase → RowOfWrite f Allowed (row 2 0)
-  number_3 : SidesAllowed f → f.phase ≤ 3 → ¬ (length f.samples ≡ f.height * f.width) → RowOfWrite f Allowed (row 3 0)
-  number_4 : SidesAllowed f → f.phase ≤ 3 → length f.samples ≡ f.height * f.width → ¬ Allowed → RowOfWrite f Allowed (row 4 0)
-  number_5 : SidesAllowed f → f.phase ≤ 3 → length f.samples ≡ f.height * f.width → Allowed → (k : ℕ)
-      → k < length f.samples → 1023 < get_or f.samples k 0 → ((m : ℕ) → m < k → get_or f.samples m 0 ≤ 1023)
-      → RowOfWrite f Allowed (row 5 k)
-  done : SidesAllowed f → f.phase ≤ 3 → length f.samples ≡ f.height * f.width → Allowed
-      → ((k : ℕ) → k < length f.samples → get_or f.samples k 0 ≤ 1023) → RowOfWrite f Allowed success
+-- document 02, A2: "11 (place 0) for b above 255, tested after 2; 12 (first position) for a sample more than 64 under b, tested after 5"
+unfoldable pub develop_tests : Frame → ℕ → Type 0 → List Test
+develop_tests f b Allowed =
+    unless (SidesAllowed f) (row 1 0)
+    ∷ unless (f.phase ≤ 3) (row 2 0)
+    ∷ unless (b ≤ 255) (row 11 0)
+    ∷ unless (length f.samples ≡ f.height * f.width) (row 3 0)
+    ∷ unless Allowed (row 4 0)
+    ∷ each 0 (λ z. z ≤ 1023) f.samples 5
+    ∷ each 0 (λ z. b ≤ z + 64) f.samples 12
+    ∷ []
 
--- develop, document 02, A2: "11 (place 0) for b above 255, tested after 2; 12 (first position) for a sample more than 64 under b, tested
--- after 5"; likewise
-pub data RowOfDevelop (f : Frame) (b : ℕ) (Allowed : Type 0) : Returned → Type 0 where
-  number_1 : ¬ SidesAllowed f → RowOfDevelop f b Allowed (row 1 0)
-  number_2 : SidesAllowed f → 3 < f.phase → RowOfDevelop f b Allowed (row 2 0)
-  number_11 : SidesAllowed f → f.phase ≤ 3 → 255 < b → RowOfDevelop f b Allowed (row 11 0)
-  number_3 : SidesAllowed f → f.phase ≤ 3 → b ≤ 255 → ¬ (length f.samples ≡ f.height * f.width)
-      → RowOfDevelop f b Allowed (row 3 0)
-  number_4 : SidesAllowed f → f.phase ≤ 3 → b ≤ 255 → length f.samples ≡ f.height * f.width → ¬ Allowed
-      → RowOfDevelop f b Allowed (row 4 0)
-  number_5 : SidesAllowed f → f.phase ≤ 3 → b ≤ 255 → length f.samples ≡ f.height * f.width → Allowed → (k : ℕ)
-      → k < length f.samples → 1023 < get_or f.samples k 0 → ((m : ℕ) → m < k → get_or f.samples m 0 ≤ 1023)
-      → RowOfDevelop f b Allowed (row 5 k)
-  number_12 : SidesAllowed f → f.phase ≤ 3 → b ≤ 255 → length f.samples ≡ f.height * f.width → Allowed
-      → ((m : ℕ) → m < length f.samples → get_or f.samples m 0 ≤ 1023) → (k : ℕ)
-      → k < length f.samples → get_or f.samples k 0 + 64 < b → ((m : ℕ) → m < k → b ≤ get_or f.samples m 0 + 64)
-      → RowOfDevelop f b Allowed (row 12 k)
-  done : SidesAllowed f → f.phase ≤ 3 → b ≤ 255 → length f.samples ≡ f.height * f.width → Allowed
-      → ((m : ℕ) → m < length f.samples → get_or f.samples m 0 ≤ 1023)
-      → ((m : ℕ) → m < length f.samples → b ≤ get_or f.samples m 0 + 64) → RowOfDevelop f b Allowed success
+-- "The order is 1 to 5."
+unfoldable pub write_tests : Frame → Type 0 → List Test
+write_tests f Allowed =
+    unless (SidesAllowed f) (row 1 0)
+    ∷ unless (f.phase ≤ 3) (row 2 0)
+    ∷ unless (length f.samples ≡ f.height * f.width) (row 3 0)
+    ∷ unless Allowed (row 4 0)
+    ∷ each 0 (λ z. z ≤ 1023) f.samples 5
+    ∷ []
 
--- ---- row 4: clamp
-
-pub data RowOfClamp (Allowed : Type 0) : Returned → Type 0 where
-  number_4 : ¬ Allowed → RowOfClamp Allowed (row 4 0)
-  done : Allowed → RowOfClamp Allowed success
-
--- ---- rows 4 and 13: curve
+unfoldable pub clamp_tests : Type 0 → List Test
+clamp_tests Allowed = unless Allowed (row 4 0) ∷ []
 
 -- document 02, A4, "13 (first position) for a number in the plane below 0 or above 1,023, tested after 4."
-pub data RowOfCurve (numbers : List ℤ) (Allowed : Type 0) : Returned → Type 0 where
-  number_4 : ¬ Allowed → RowOfCurve numbers Allowed (row 4 0)
-  number_13 : Allowed → (k : ℕ) → k < length numbers
-      → (get_or numbers k (pos 0) <ℤ pos 0) ⊎ (pos 1023 <ℤ get_or numbers k (pos 0))
-      → ((m : ℕ) → m < k → Clamped (get_or numbers m (pos 0))) → RowOfCurve numbers Allowed (row 13 k)
-  done : Allowed → ((m : ℕ) → m < length numbers → Clamped (get_or numbers m (pos 0))) → RowOfCurve numbers Allowed success
+unfoldable pub curve_tests : List ℤ → Type 0 → List Test
+curve_tests numbers Allowed = unless Allowed (row 4 0) ∷ each (pos 0) Clamped numbers 13 ∷ []

@@ -2,25 +2,25 @@
 use Rattle.std.specs.Prelude.{Err, Ok}
 use mathlib.Core.Path.{◌≡◌, refl, sym, ◌∙◌, ap}
 use mathlib.Core.Bool.{Bool, true, false}
-use mathlib.Core.List.{List}
+use mathlib.Core.List.{List, [], ◌∷◌}
 use Prim.Native.Nat.{ℕ, ◌≤◌}
 use lib.ListN.{length}
 use Rattle.frame.specs.declared.Shape.{Shape}
 use Rattle.answers.specs.declared.Refusal.{Refusal}
 use Rattle.answers.specs.declared.Refusal.TheVariants.{BufferLength}
 use Rattle.frame.specs.Sites.{frame}
-use Rattle.answers.specs.Calls.{tested, and_then, samples_answer, black_answer, under_answer, lengths_fit, lengths_allowed, develop_answer, Answer, no_refusal}
+use Rattle.answers.specs.Calls.{test, and_then, in_order, samples_answer, black_answer, under_answer, lengths_fit, lengths_allowed, develop_answer, Answer, no_refusal}
 use Rattle.answers.specs.declared.Lengths.{Lengths}
-use Rattle.answers.proofs.Admission.{and_then_done, eleven_in_figures}
+use Rattle.answers.proofs.Admission.{in_order_append, in_order_done, last_alone, eleven_in_figures}
 use Rattle.admission.specs.ShapeTest.{shape_answer, count_answer}
-use Rattle.admission.specs.InOrder.{in_order}
+use Rattle.admission.specs.InOrder.{shape_first, count_is}
 use Rattle.admission.specs.Allowed.{count_passes}
 
 -- ---- numbers 1, 2, 11 and 3
 
 module _ (shape : Shape) (b count : ℕ) where
   abbrev pub first_answer : Answer
-  first_answer = and_then (shape_answer shape) (and_then (black_answer b) (count_answer shape count))
+  first_answer = in_order (shape_answer shape ∷ black_answer b ∷ count_answer shape count ∷ [])
 
   -- what has passed them
   pub record Passes : Type 0 where
@@ -30,19 +30,8 @@ module _ (shape : Shape) (b count : ℕ) where
 
   pub first_passes : first_answer ≡ no_refusal → Passes
   first_passes e =
-      let shapes = and_then_done (shape_answer shape) _ e in
-      let blacks = and_then_done (black_answer b) (count_answer shape count) shapes.1 in
-      record {
-        shape_passes = shapes.0;
-        black_passes = (eleven_in_figures b).0 blacks.0;
-        count_passes = blacks.1;
-      }
-
--- one answer after another, from either side
-three_answers : (a b c rest : Answer) → and_then a (and_then b (and_then c rest)) ≡ and_then (and_then a (and_then b c)) rest
-three_answers (Ok _) (Ok _) c rest = refl
-three_answers (Ok _) (Err why) c rest = refl
-three_answers (Err why) b c rest = refl
+      let (shapes, (blacks, (counts, end))) = in_order_done _ e in
+      record { shape_passes = shapes; black_passes = (eleven_in_figures b).0 blacks; count_passes = counts }
 
 -- ---- the numbers in order
 
@@ -51,11 +40,11 @@ module _ (shape : Shape) (b : ℕ) (mosaic : List ℕ) (l : Lengths) where
   answer = develop_answer (frame shape mosaic) b l
 
   answer_is : answer ≡ and_then (first_answer shape b (length mosaic))
-      (tested (lengths_allowed (frame shape mosaic) l) BufferLength (and_then (samples_answer mosaic) (under_answer b mosaic)))
+      (in_order (test (lengths_allowed (frame shape mosaic) l) BufferLength ∷ samples_answer mosaic ∷ under_answer b mosaic ∷ []))
   unfolding develop_answer
   answer_is =
-      in_order shape mosaic (black_answer b) (lengths_allowed (frame shape mosaic) l) (under_answer b mosaic)
-      ∙ three_answers (shape_answer shape) (black_answer b) (count_answer shape (length mosaic)) _
+      shape_first shape mosaic _ ∙ rw (count_is shape mosaic)
+      (in_order_append (shape_answer shape ∷ black_answer b ∷ count_answer shape (length mosaic) ∷ []) _)
 
   pub first_refused : (why : Refusal) → first_answer shape b (length mosaic) ≡ Err why → Err why ≡ answer
   first_refused why e = sym (answer_is ∙ rw e)
@@ -68,11 +57,14 @@ module _ (shape : Shape) (b : ℕ) (mosaic : List ℕ) (l : Lengths) where
         ∙ sym fit
 
     pub lengths_refused : t ≡ false → Err BufferLength ≡ answer
+    unfolding in_order
     lengths_refused h = sym (answer_is ∙ rw (done, allowed_is ∙ h))
 
     module _ (h : t ≡ true) where
       pub samples_refused : (why : Refusal) → samples_answer mosaic ≡ Err why → Err why ≡ answer
+      unfolding in_order
       samples_refused why e = sym (answer_is ∙ rw (done, allowed_is ∙ h, e))
 
       pub under_tested : samples_answer mosaic ≡ no_refusal → (a : Answer) → a ≡ under_answer b mosaic → a ≡ answer
-      under_tested e a u = u ∙ sym (answer_is ∙ rw (done, allowed_is ∙ h, e))
+      unfolding in_order
+      under_tested e a u = u ∙ sym (answer_is ∙ rw (done, allowed_is ∙ h, e) (last_alone (under_answer b mosaic)))

@@ -1,9 +1,9 @@
 // Develops a frame at a black level: the refusals in order, and then the three planes and the map by one sweep over the rows.
 #![tactic(auto)]
 
-ghost use Rattle.std.specs.Prelude.{◌≡◌, ◌*◌, ◌≤◌};
+ghost use Rattle.std.specs.Prelude.{◌≡◌, ◌*◌, ◌≤◌, [], ◌∷◌};
 ghost use Rattle.frame.specs.Sites.{frame as frame_of, Colour};
-ghost use Rattle.answers.specs.Calls.{and_then, black_answer, lengths_fit, develop_answer};
+ghost use Rattle.answers.specs.Calls.{in_order, black_answer, lengths_fit, develop_answer};
 ghost use Rattle.method.specs.Green.{decision_map};
 ghost use Rattle.method.specs.Planes.{plane};
 ghost use Rattle.admission.specs.ShapeTest.{shape_answer, count_answer};
@@ -28,9 +28,9 @@ fn lengths_right(count: usize, lengths: Lengths) -> bool
 }
 
 // Numbers 1, 2, 11 and 3, in this order.
-#[tactic(auto, using(admission::specs::Allowed::shape_passes))]
+#[tactic(auto, using(admission::specs::Allowed::shape_passes, answers::proofs::Admission::last_alone), unfolding(answers::specs::Calls::in_order))]
 fn judge_shape(shape: Shape, black: usize, count: usize) -> Answer
-    ensures { result ≡ and_then (shape_answer shape) (and_then (black_answer black) (count_answer shape count)) }
+    ensures { result ≡ in_order (shape_answer shape ∷ black_answer black ∷ count_answer shape count ∷ []) }
 {
     admission::test_shape(shape)?;
     admission::test_black(black)?;

@@ -1,5 +1,5 @@
 -- A written file with one byte changed is refused with number 7 and that byte's block. Assumes nothing.
-use Rattle.std.specs.Prelude.{◌≡◌, true, false, ℕ, zero, suc, ◌+◌, ◌*◌, ◌-◌, ◌/◌, ◌%◌, ◌≤◌, ◌<◌, eqb, set}
+use Rattle.std.specs.Prelude.{◌≡◌, true, false, ℕ, zero, suc, ◌+◌, ◌*◌, ◌-◌, ◌/◌, ◌%◌, ◌≤◌, ◌<◌, eqb, set, Err}
 use Rattle.std.proofs.Math.Path.{sym, ap}
 use Rattle.std.proofs.Common.{◌∙◌, subst, ⊎_elim, eq-or-lt_of_le, eq-zero-or-pos, add_left_cancel, get_or-set_same}
 use mathlib.Core.List.{List}
@@ -13,10 +13,10 @@ use Rattle.answers.specs.declared.Refusal.TheVariants.{Check}
 use Rattle.frame.specs.Sites.{Frame}
 use Rattle.answers.specs.Calls.{returned_by_read, Admitted}
 use Rattle.frame_file.specs.Lists.{part, length_part, get_d_part, part_set_past, part_set_before, part_set_inside, Below, below_part, below_set}
-use Rattle.frame_file.specs.FrameFile.{sample_count, block, header, payload, block_count, file_length, little_endian, little_endian_bytes, position_weighted_sum, check, stored_check, check_holds, filler_holds, stored_frame, written_file, refused, reading, read_answer}
+use Rattle.frame_file.specs.FrameFile.{sample_count, block, header, payload, block_count, file_length, little_endian, little_endian_bytes, position_weighted_sum, check, stored_check, check_holds, filler_holds, stored_frame, written_file, reading, read_answer}
 use Rattle.frame_file.proofs.LittleEndian.{part_of_number}
 use Rattle.frame_file.proofs.Check.{weighted_sum_cong, check_cong}
-use Rattle.frame_file.proofs.ReadTests.{Passes, HeaderPasses, later_blocks_check, read_after_header, read_check_0}
+use Rattle.frame_file.proofs.ReadTests.{Passes, HeaderPasses, blocks_check, read_after_header, read_check_0}
 use Rattle.frame_file.proofs.WrittenFile.{payload_of_block, length_written_file, frame_of_written_file, below_written_file, written_header_passes, written_block_passes, written_check_holds}
 
 -- ---- the check of a block with one byte changed
@@ -149,7 +149,7 @@ module _ (f : Frame) (a : Admitted f) (room : ℕ) (enough : sample_count f ≤ 
   header_passes : HeaderPasses (written_file f) room
   header_passes = written_header_passes f a room enough
 
-  changed_in_header : k / 512 ≡ 0 → reading (set (written_file f) k v) room ≡ refused (Check 0)
+  changed_in_header : k / 512 ≡ 0 → reading (set (written_file f) k v) room ≡ Err (Check 0)
   changed_in_header e =
       read_check_0 (set (written_file f) k v) room (rw (length-set (written_file f) k v) header_passes.size)
       (subst (λ (n : ℕ). check_holds (block (set (written_file f) k v) n) ≡ false) e changed_check)
@@ -160,20 +160,21 @@ module _ (f : Frame) (a : Admitted f) (room : ℕ) (enough : sample_count f ≤ 
       ap (λ (b : List ℕ). (header b).height * (header b).width) (earlier_block (written_file f) k v 0 h)
       ∙ ap (λ (g : Frame). g.height * g.width) (frame_of_written_file f a)
 
-  changed_later : 0 < k / 512 → reading (set (written_file f) k v) room ≡ refused (Check (k / 512))
+  changed_later : 0 < k / 512 → reading (set (written_file f) k v) room ≡ Err (Check (k / 512))
   changed_later h =
       read_after_header (set (written_file f) k v) room (header_still_passes (written_file f) k v room h header_passes)
-      ∙ later_blocks_check (set (written_file f) k v) (stored_frame (set (written_file f) k v)) (k / 512) 1 _ h
-      (rw (same_count h) (omega (arith, in_file)))
-      (rw (same_count h)
-      (λ n l m. block_still_passes (written_file f) k v (sample_count f) n m
-      (written_block_passes f a n l (omega (arith, in_file)))))
-      changed_check
+      ∙ rw (
+        same_count h,
+        blocks_check (set (written_file f) k v) (sample_count f) (k / 512) 1 (block_count (sample_count f) - 1) h
+            (omega (arith, in_file))
+            (λ n l m. block_still_passes (written_file f) k v (sample_count f) n m (written_block_passes f a n l (omega (arith, in_file))))
+            changed_check,
+      )
 
   -- a written file with byte k changed to another byte is refused for its check, at the block of byte k
-  pub one_byte_changed : reading (set (written_file f) k v) room ≡ refused (Check (k / 512))
+  pub one_byte_changed : reading (set (written_file f) k v) room ≡ Err (Check (k / 512))
   one_byte_changed =
-      ⊎_elim (λ (e : k / 512 ≡ 0). changed_in_header e ∙ ap (λ (n : ℕ). refused (Check n)) (sym e)) changed_later
+      ⊎_elim (λ (e : k / 512 ≡ 0). changed_in_header e ∙ ap (λ (n : ℕ). Err (Check n)) (sym e)) changed_later
       (eq-zero-or-pos (k / 512))
 
   -- the call then returns 7 and that block

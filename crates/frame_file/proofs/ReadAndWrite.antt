@@ -1,14 +1,15 @@
 -- Demand 2 over what the calls return and leave: read yields a frame from a file exactly when write makes the file from that frame.
 -- Assumes nothing.
-use Rattle.std.specs.Prelude.{◌≡◌, refl, ◌↔◌, List, ◌++◌, ℕ, ◌*◌, ◌≤◌, eqb, length, drop, take, Ok}
+use Rattle.std.specs.Prelude.{◌≡◌, refl, ◌↔◌, List, ◌++◌, ℕ, ◌*◌, ◌≤◌, eqb, length, drop, take, Ok, Err}
 use Rattle.std.proofs.Common.{sym, ◌∙◌, ap, ap₂, arith, length-append, take_at}
 use Rattle.toolkit.specs.Tests.{eqb_yes}
 use Rattle.frame.specs.declared.Shape.{Shape}
 use Rattle.frame.specs.Sites.{Frame, frame}
-use Rattle.answers.specs.Calls.{Admitted, no_refusal, ReadAnswer}
-use Rattle.answers.proofs.Admission.{done_passed, passed_done}
+use Rattle.answers.specs.declared.Refusal.TheVariants.{BufferLength}
+use Rattle.answers.specs.Calls.{Admitted, test, no_refusal, ReadAnswer}
+use Rattle.answers.proofs.Admission.{passes_admitted, admitted_passes, in_order_done, done_in_order}
 use Rattle.frame_file.specs.Lists.{Below}
-use Rattle.frame_file.specs.FrameFile.{sample_count, shape_of, file_length, written_file, write_answer, file_after_write, Reading, accepted, refused, answer_of, samples_of, reading, read_answer, samples_after_read}
+use Rattle.frame_file.specs.FrameFile.{sample_count, shape_of, file_length, written_file, write_answer, file_after_write, Reading, answer_of, samples_of, reading, read_answer, samples_after_read}
 use Rattle.frame_file.proofs.WrittenFile.{length_written_file}
 use Rattle.frame_file.proofs.AcceptedExactlyWhenWritten.{accepted_is_written, accepted_exactly_when_written}
 
@@ -27,8 +28,9 @@ pub record Yields (file before : List ℕ) (f : Frame) : Type 0 where
 pub write_done : (f : Frame) → Admitted f → (n : ℕ) → n ≡ file_length f → write_answer f n ≡ no_refusal
 unfolding write_answer
 write_done f a n e =
-    passed_done f no_refusal (eqb n (file_length f)) no_refusal
-    (record { admitted = a; black_passes = refl; lengths_pass = rw (eqb_yes e) tt; none_is_under = refl })
+    let p = admitted_passes f a in
+    let lent : test (eqb n (file_length f)) BufferLength ≡ no_refusal = rw (eqb_yes e) in
+    done_in_order _ (p.sides_pass, (p.phase_passes, (p.mosaic_passes, (lent, (p.samples_pass, tt)))))
 
 pub write_leaves : (f : Frame) (before : List ℕ) → write_answer f (length before) ≡ no_refusal → file_after_write f before ≡ written_file f
 unfolding file_after_write
@@ -36,10 +38,11 @@ write_leaves f before e = rw e
 
 pub makes_written : (f : Frame) (file : List ℕ) → Makes f file → Admitted f × (file ≡ written_file f)
 unfolding write_answer
-makes_written f file m = (
-  (done_passed f no_refusal (eqb (length file) (file_length f)) no_refusal m.answered).admitted,
-  sym (m.left file refl) ∙ write_leaves f file m.answered,
-)
+makes_written f file m =
+    let (sides, (phase, (mosaic, (lent, (samples, end))))) = in_order_done _ m.answered in (
+      passes_admitted f (record { sides_pass = sides; phase_passes = phase; mosaic_passes = mosaic; samples_pass = samples }),
+      sym (m.left file refl) ∙ write_leaves f file m.answered,
+    )
 
 pub written_makes : (f : Frame) (file : List ℕ) → Admitted f → file ≡ written_file f → Makes f file
 written_makes f file a e =
@@ -52,7 +55,7 @@ written_makes f file a e =
 -- ---- read
 
 module _ (file before : List ℕ) (f : Frame) where
-  pub accepted_yields : reading file (length before) ≡ accepted f → Yields file before f
+  pub accepted_yields : reading file (length before) ≡ Ok f → Yields file before f
   unfolding read_answer samples_after_read
   accepted_yields e = record { answered = rw e; left = rw e }
 
@@ -72,11 +75,11 @@ module _ (file before : List ℕ) (f : Frame) where
       ap₂ frame shapes (samples_equal g (drop (sample_count f) before) (sym (ap (λ (t : List ℕ). g.samples ++ t) rest) ∙ s))
 
   reading_is : (o : Reading) → answer_of o ≡ Ok (shape_of f)
-      → samples_of o before ≡ f.samples ++ drop (sample_count f) before → o ≡ accepted f
-  reading_is (accepted g) e s = ap accepted (frames_equal g e s)
-  reading_is (refused why) e s = absurd (let z : ◌≡◌ {A = ℕ} 0 1 = cc in omega arith)
+      → samples_of o before ≡ f.samples ++ drop (sample_count f) before → o ≡ Ok f
+  reading_is (Ok g) e s = ap (λ (h : Frame). Ok h) (frames_equal g e s)
+  reading_is (Err why) e s = absurd (let z : ◌≡◌ {A = ℕ} 0 1 = cc in omega arith)
 
-  pub yields_accepted : Yields file before f → reading file (length before) ≡ accepted f
+  pub yields_accepted : Yields file before f → reading file (length before) ≡ Ok f
   unfolding read_answer samples_after_read
   yields_accepted y = reading_is (reading file (length before)) y.answered y.left
 

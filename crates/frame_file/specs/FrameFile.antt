@@ -1,11 +1,11 @@
 -- Document 01, "The frame file", and what read and write answer ("Calls and returns"). Definitions alone; their laws stand in the
 -- other modules of this crate. A byte is a natural number below 256, a file a list of them. Assumes nothing.
-use Rattle.std.specs.Prelude.{Bool, cond, ◌&&◌, List, [], ◌∷◌, ◌++◌, ℕ, zero, suc, ◌+◌, ◌*◌, ◌-◌, ◌/◌, ◌%◌, leb, eqb, length, get_or, take, drop, Err, Ok}
+use Rattle.std.specs.Prelude.{Bool, ◌&&◌, List, [], ◌∷◌, ◌++◌, ℕ, zero, suc, ◌+◌, ◌*◌, ◌-◌, ◌/◌, ◌%◌, leb, eqb, length, get_or, take, drop, Result, Err, Ok}
 use Rattle.frame.specs.declared.Shape.{Shape}
 use Rattle.answers.specs.declared.Refusal.{Refusal}
 use Rattle.answers.specs.declared.Refusal.TheVariants.{BufferLength, FileLength, Check, Header, BlockNumber, Filler}
 use Rattle.frame.specs.Sites.{Frame, frame, side_allowed, phase_allowed}
-use Rattle.answers.specs.Calls.{answer_in_order, after, Answer, ReadAnswer, no_refusal}
+use Rattle.answers.specs.Calls.{test, and_then, in_order, sides_answer, phase_answer, mosaic_answer, samples_answer, after, Answer, ReadAnswer}
 use Rattle.frame_file.specs.Lists.{part, joined, zeros, all_zero, same_list}
 
 -- W, H and the phase of a frame
@@ -143,7 +143,15 @@ written_file f = joined (block_count (sample_count f)) (written_block f)
 
 -- "Write needs exactly the file's length."; "The order is 1 to 5."; it takes no black level
 unfoldable pub write_answer : Frame → ℕ → Answer
-write_answer f lent_length = answer_in_order f no_refusal (eqb lent_length (file_length f)) no_refusal
+write_answer f lent_length =
+    in_order (
+      sides_answer f
+      ∷ phase_answer f
+      ∷ mosaic_answer f
+      ∷ test (eqb lent_length (file_length f)) BufferLength
+      ∷ samples_answer f.samples
+      ∷ []
+    )
 
 -- "Every refusal leaves every buffer untouched.": what the lent file holds after write
 unfoldable pub file_after_write : Frame → List ℕ → List ℕ
@@ -162,13 +170,8 @@ stored_frame file =
     frame shape (stored_samples file (shape.height * shape.width))
 
 -- what read finds: a frame, or why there is none
-pub data Reading : Type 0 where
-  accepted : Frame → Reading
-  refused : Refusal → Reading
-
--- go on where a test holds, otherwise refuse
-abbrev pub tested : Bool → Refusal → Reading → Reading
-tested holds why rest = cond holds rest (refused why)
+abbrev pub Reading : Type 0
+Reading = Result Frame Refusal
 
 -- "6: length below 512, no multiple of 512"
 unfoldable pub length_allowed : ℕ → Bool
@@ -191,41 +194,44 @@ unfoldable pub filler_holds : List ℕ → ℕ → ℕ → Bool
 filler_holds file samples n =
     all_zero (block_filler (block file n)) && all_zero (drop (samples - samples_per_block * (n - 1)) (unpacked_payload (payload file n)))
 
--- "then blocks 1, 2, .. each for 7, 9, 10.": blocks n, n + 1, .., so many of them
-unfoldable pub later_blocks : List ℕ → Frame → ℕ → ℕ → Reading
-later_blocks file f n zero = accepted f
-later_blocks file f n (suc left) =
-    tested (check_holds (block file n)) (Check n)
-    (tested (number_holds (block file n) n) (BlockNumber n)
-    (tested (filler_holds file (sample_count f) n) (Filler n)
-    (later_blocks file f (suc n) left)))
+-- "then blocks 1, 2, .. each for 7, 9, 10.": the tests of blocks n, n + 1, .., so many of them, in the file of a frame of so many samples
+unfoldable pub block_tests : List ℕ → ℕ → ℕ → ℕ → List Answer
+block_tests file samples n zero = []
+block_tests file samples n (suc left) =
+    test (check_holds (block file n)) (Check n)
+    ∷ test (number_holds (block file n) n) (BlockNumber n)
+    ∷ test (filler_holds file samples n) (Filler n)
+    ∷ block_tests file samples (suc n) left
 
 -- "Read tests length, then block 0 for 7, 9, 8, 10, then the count (6), then 4, then blocks 1, 2, .. each for 7, 9, 10."; "Read needs
 -- W·H entries or more": `room` is how many it is lent
-unfoldable pub reading : List ℕ → ℕ → Reading
-reading file room =
+unfoldable pub read_tests : List ℕ → ℕ → List Answer
+read_tests file room =
     let f : Frame = stored_frame file in
-    tested (length_allowed (length file)) FileLength
-    (tested (check_holds (block file 0)) (Check 0)
-    (tested (number_holds (block file 0) 0) (BlockNumber 0)
-    (tested (header_allowed (block file 0)) Header
-    (tested (all_zero (header_filler (block file 0))) (Filler 0)
-    (tested (eqb (length file) (file_length f)) FileLength
-    (tested (leb (sample_count f) room) BufferLength
-    (later_blocks file f 1 (block_count (sample_count f) - 1))))))))
+    test (length_allowed (length file)) FileLength
+    ∷ test (check_holds (block file 0)) (Check 0)
+    ∷ test (number_holds (block file 0) 0) (BlockNumber 0)
+    ∷ test (header_allowed (block file 0)) Header
+    ∷ test (all_zero (header_filler (block file 0))) (Filler 0)
+    ∷ test (eqb (length file) (file_length f)) FileLength
+    ∷ test (leb (sample_count f) room) BufferLength
+    ∷ block_tests file (sample_count f) 1 (block_count (sample_count f) - 1)
+
+unfoldable pub reading : List ℕ → ℕ → Reading
+reading file room = and_then (in_order (read_tests file room)) (Ok (stored_frame file))
 
 -- "Success returns 0, 0, and read adds W, H and the phase; a refusal returns its number and place alone."
 abbrev pub answer_of : Reading → ReadAnswer
-answer_of (accepted f) = Ok (shape_of f)
-answer_of (refused why) = Err why
+answer_of (Ok f) = Ok (shape_of f)
+answer_of (Err why) = Err why
 
 unfoldable pub read_answer : List ℕ → ℕ → ReadAnswer
 read_answer file room = answer_of (reading file room)
 
 -- "Read needs W·H entries or more, and those past W·H stay."; "Every refusal leaves every buffer untouched."
 abbrev pub samples_of : Reading → List ℕ → List ℕ
-samples_of (accepted f) before = f.samples ++ drop (sample_count f) before
-samples_of (refused why) before = before
+samples_of (Ok f) before = f.samples ++ drop (sample_count f) before
+samples_of (Err why) before = before
 
 -- what the lent samples hold after read
 unfoldable pub samples_after_read : List ℕ → List ℕ → List ℕ

@@ -7,7 +7,7 @@ use Rattle.std.proofs.Math.Nat.{add-zero}
 use Rattle.std.proofs.Math.Numerals.{add-one}
 use Rattle.std.proofs.Math.ListN.{length-append}
 use Rattle.toolkit.specs.Tests.{eqb_yes}
-use Rattle.answers.specs.Calls.{clamp_answer, clamped, curve_answer, after, Answer, no_refusal}
+use Rattle.answers.specs.Calls.{in_order, clamp_answer, clamped, curve_answer, after, Answer, no_refusal}
 use Rattle.answers.proofs.Clamped.{equal_lengths}
 use Rattle.curve.proofs.Plane.{clamped_passes}
 use Rattle.frame_file.specs.Lists.{joined, put_at}
@@ -77,12 +77,12 @@ module _ (W : ℕ) (r g b : List ℤ) (cr : ClampedNumbers r) (cg : ClampedNumbe
 -- a plane clamped into one of equal length
 pub clamp_done : (plane before last : List ℤ) (a : Answer) → length before ≡ length plane → a ≡ clamp_answer (length plane) (length before)
     → last ≡ after a (clamped plane) before → last ≡ clamped plane
-unfolding clamp_answer
+unfolding clamp_answer in_order
 clamp_done plane before last a same e left = left ∙ rw (e, eqb_yes same)
 
 -- and it is not refused
 pub clamp_allowed : (plane filled : ℕ) → filled ≡ plane → clamp_answer plane filled ≡ no_refusal
-unfolding clamp_answer
+unfolding clamp_answer in_order
 clamp_allowed plane filled same = rw (eqb_yes same)
 
 -- nor does the curve refuse a clamped plane

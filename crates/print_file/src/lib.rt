@@ -29,7 +29,7 @@ fn read_full<R: Read>(input: &mut R, file: &mut [u8]) -> io::Result<usize>
     Ok(length)
 }
 
-// Writes all of the bytes, or those before a write that fails or takes none.
+// Writes all of the bytes, or, where a write fails or takes none, those before it.
 fn write_full<W: Write>(output: &mut W, bytes: &[u8]) -> io::Result<()>
     ensures whole { OnOk result (Appends (W.contents output.old) (W.contents output.new) bytes.now) }
     ensures front { OnErr result (AppendsFront (W.contents output.old) (W.contents output.new) bytes.now) }
@@ -47,9 +47,9 @@ fn write_full<W: Write>(output: &mut W, bytes: &[u8]) -> io::Result<()>
 }
 
 // Where the bytes of the input are known, and what the output holds, this grows by all that is printed of them. Where a
-// read or a write fails, it grows by some front part of that text: by none of it where a read failed, since nothing is
-// written before all is read; how far the input was read is left open. At most 2,049 bytes are read: one more than a file
-// may have, so that a longer one is seen, and endless input ends.
+// read or a write fails, it grows by a front part of that text, which is not all of it: by none of it where a read failed,
+// since nothing is written before all is read. How far the input was read is left open then. At most 2,049 bytes are read:
+// one more than a file may have, so that a longer one is seen, and endless input ends.
 pub fn print_file<R: Read, W: Write>(input: &mut R, output: &mut W, tone: Tone) -> io::Result<()>
     ensures whole { OnOk result (IfSome (R.remaining input.old) (λ file.
         Appends (W.contents output.old) (W.contents output.new) (printed tone file))) }

@@ -1,13 +1,13 @@
 -- Develop refuses no frame that read accepts: of a file of bytes that holds a frame of at most 1,024 samples the program prints that
 -- frame's text. Assumes nothing.
-use Rattle.std.specs.Prelude.{◌≡◌, List, ℕ, ◌≤◌, length}
+use Rattle.std.specs.Prelude.{◌≡◌, List, ℕ, ◌≤◌, length, Ok}
 use Rattle.std.proofs.Common.{arith}
 use Rattle.toolkit.specs.Tests.{ltb_no}
 use Rattle.frame.specs.Sites.{Frame}
 use Rattle.answers.specs.Calls.{Admitted, develop_answer, no_refusal}
 use Rattle.answers.proofs.Admission.{least_allowed, admitted_done, admitted_at_zero}
 use Rattle.frame_file.specs.Lists.{Below}
-use Rattle.frame_file.specs.FrameFile.{block_count, file_length, reading, accepted}
+use Rattle.frame_file.specs.FrameFile.{block_count, file_length, reading}
 use Rattle.frame_file.proofs.WrittenFile.{length_written_file}
 use Rattle.frame_file.proofs.AcceptedExactlyWhenWritten.{WrittenFrom, accepted_is_written}
 use Rattle.printing.specs.declared.Tone.{Tone}
@@ -21,7 +21,7 @@ accepted_short : (file : List ℕ) (f : Frame) → WrittenFrom f file 1024 → l
 unfolding file_length block_count
 accepted_short file f w = rw w.written (omega (arith, length_written_file f, w.enough))
 
-pub accepted_printed : (tone : Tone) (file : List ℕ) → Below 256 file → (f : Frame) → reading file 1024 ≡ accepted f
+pub accepted_printed : (tone : Tone) (file : List ℕ) → Below 256 file → (f : Frame) → reading file 1024 ≡ Ok f
     → printed tone file ≡ frame_text tone f
 unfolding printed
 accepted_printed tone file bytes f e =

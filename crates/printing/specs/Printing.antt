@@ -83,8 +83,8 @@ text_of_developed tone f (Err why) = refusal_text why
 
 -- what is printed by what read finds
 abbrev pub text_of : Tone → File.Reading → List ℕ
-text_of tone (File.accepted f) = text_of_developed tone f (develop_answer f black_level (lent f))
-text_of tone (File.refused why) = refusal_text why
+text_of tone (Ok f) = text_of_developed tone f (develop_answer f black_level (lent f))
+text_of tone (Err why) = refusal_text why
 
 -- "The program reads one file from standard input into 2,048 bytes (a longer one prints `refused 4 0` before any other test) and 1,024
 -- samples (read's own 4), develops, clamps and prints;"

@@ -2,10 +2,11 @@
 #![tactic(auto)]
 
 ghost use Rattle.std.specs.Prelude.{◌≡◌, ◌+◌, ◌*◌, ◌-◌, ◌≤◌, length};
+ghost use Rattle.answers.specs.Calls.{in_order};
 ghost use Rattle.frame_file.specs.Lists.{all_zero};
-ghost use Rattle.frame_file.specs.FrameFile.{header, block_count, stored_samples};
+ghost use Rattle.frame_file.specs.FrameFile.{header, block_count, block_tests, stored_samples};
 ghost use Rattle.calls.specs.WhatCallsLeave.{ReadLeaves};
-ghost use Rattle.reader.specs.ReadSteps.{header_answer, first_answer, later_answer, later_answers};
+ghost use Rattle.reader.specs.ReadSteps.{header_answer, first_answer, later_answer};
 
 use answers::{Answer, ReadAnswer, Refusal};
 use frame::Shape;
@@ -77,7 +78,7 @@ fn test_later(file: &[u8], samples: usize, n: usize) -> Answer
 #[tactic(auto, using(crate::proofs::Tests::blocks_laws))]
 fn test_blocks(file: &[u8], samples: usize, count: usize) -> Answer
     requires { (count ≡ block_count samples) × (length file.now ≡ 512 * count) }
-    ensures { result ≡ later_answers file.now samples 1 (count - 1) }
+    ensures { result ≡ in_order (block_tests file.now samples 1 (count - 1)) }
 {
     for n in 1..count {
         test_later(file, samples, n)?;

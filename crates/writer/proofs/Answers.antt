@@ -2,7 +2,7 @@
 use Rattle.std.specs.Prelude.{Err}
 use mathlib.Core.Path.{◌≡◌, sym, ◌∙◌, ap}
 use mathlib.Core.Bool.{true}
-use mathlib.Core.List.{List}
+use mathlib.Core.List.{List, [], ◌∷◌}
 use Prim.Native.Nat.{ℕ, ◌*◌}
 use native.Mathlib.Omega.{arith}
 use lib.Dec.{eqb}
@@ -13,10 +13,10 @@ use Rattle.frame.specs.declared.Shape.{Shape}
 use Rattle.answers.specs.declared.Refusal.{Refusal}
 use Rattle.answers.specs.declared.Refusal.TheVariants.{BufferLength}
 use Rattle.frame.specs.Sites.{frame, highest_sample}
-use Rattle.answers.specs.Calls.{tested, and_then, samples_answer, Answer, no_refusal}
+use Rattle.answers.specs.Calls.{test, in_order, samples_answer, Answer, no_refusal}
 use Rattle.answers.proofs.Admission.{samples_done}
 use Rattle.admission.specs.ShapeTest.{shape_answer, count_answer}
-use Rattle.admission.specs.InOrder.{in_order}
+use Rattle.admission.specs.InOrder.{shape_first, count_is}
 use Rattle.admission.specs.Allowed.{shape_passes, count_passes, count_most}
 use Rattle.frame_file.specs.Lists.{below_from}
 use Rattle.frame_file.specs.FrameFile.{block_count, file_length, written_file, write_answer, file_after_write}
@@ -28,11 +28,15 @@ module _ (shape : Shape) (mosaic file : List ℕ) where
   answer = write_answer (frame shape mosaic) (length file)
 
   -- numbers 1 and 2, then 3, then 4, then 5
-  answer_is : answer ≡ and_then (shape_answer shape)
-      (and_then (count_answer shape (length mosaic))
-      (tested (eqb (length file) (file_length (frame shape mosaic))) BufferLength (and_then (samples_answer mosaic) no_refusal)))
+  answer_is : answer ≡ in_order (
+      shape_answer shape
+      ∷ count_answer shape (length mosaic)
+      ∷ test (eqb (length file) (file_length (frame shape mosaic))) BufferLength
+      ∷ samples_answer mosaic
+      ∷ []
+      )
   unfolding write_answer
-  answer_is = in_order shape mosaic no_refusal (eqb (length file) (file_length (frame shape mosaic))) no_refusal
+  answer_is = shape_first shape mosaic _ ∙ rw (count_is shape mosaic)
 
   -- what write returns and leaves
   abbrev pub Wrote : Answer → List ℕ → Type 0
@@ -44,10 +48,12 @@ module _ (shape : Shape) (mosaic file : List ℕ) where
   refused_so why e = record { answered = sym e; file_left = rw e }
 
   pub shape_refused : (why : Refusal) → shape_answer shape ≡ Err why → Wrote (Err why) file
+  unfolding in_order
   shape_refused why e = refused_so why (answer_is ∙ rw e)
 
   pub count_refused : shape_answer shape ≡ no_refusal → (why : Refusal) → count_answer shape (length mosaic) ≡ Err why
       → Wrote (Err why) file
+  unfolding in_order
   count_refused done why e = refused_so why (answer_is ∙ rw (done, e))
 
   module _ (done : shape_answer shape ≡ no_refusal) (count : count_answer shape (length mosaic) ≡ no_refusal) where
@@ -56,6 +62,7 @@ module _ (shape : Shape) (mosaic file : List ℕ) where
     file_length_is = ap (λ (n : ℕ). 512 * block_count n) (sym (count_passes shape (length mosaic) count))
 
     pub size_refused : ¬ (length file ≡ 512 * block_count (length mosaic)) → Wrote (Err BufferLength) file
+    unfolding in_order
     size_refused h =
         refused_so BufferLength
         (answer_is ∙ rw (done, count, ne_eqb (length file) (file_length (frame shape mosaic)) (λ q. h (q ∙ file_length_is))))
@@ -65,6 +72,7 @@ module _ (shape : Shape) (mosaic file : List ℕ) where
       right_size = eqb_yes (size ∙ sym file_length_is)
 
       pub samples_refused : (why : Refusal) → samples_answer mosaic ≡ Err why → Wrote (Err why) file
+      unfolding in_order
       samples_refused why e = refused_so why (answer_is ∙ rw (done, count, right_size, e))
 
       module _ (small : samples_answer mosaic ≡ no_refusal) where
@@ -79,5 +87,5 @@ module _ (shape : Shape) (mosaic file : List ℕ) where
         }
 
         pub all_written : (last : List ℕ) → last ≡ written_file (frame shape mosaic) → Wrote no_refusal last
-        unfolding file_after_write
+        unfolding file_after_write in_order
         all_written last e = let d : answer ≡ no_refusal = answer_is ∙ rw (done, count, right_size, small) in record { answered = sym d; file_left = rw d e }

@@ -1,11 +1,15 @@
 -- `print_file::print_file` meets its contract. Assumes nothing.
 use Rattle.std.proofs.Common.{◌≡◌, List, ℕ, take, OnErr, OnOk, IfSome, subst, arith, rules, length-take-le}
-use Rattle.std.specs.Prelude.{Ok, Err}
+use Rattle.std.specs.Prelude.{Ok, Err, Some, None}
+use Rattle.std.specs.declared.option.Option.{Option}
 use Rattle.std.specs.declared.result.Result.{Result}
 use Rattle.std.specs.Io.KnownBytes.{Appends}
+use Rattle.std.proofs.KnownBytes.{Appends-nil}
 use Rattle.std.proofs.Math.Nat.{sub-zero}
+use Rattle.printing.specs.declared.Tone.{Tone}
 use Rattle.printing.specs.Printing.{printed}
 use Rattle.print_file.specs.Parts.{AppendsFront}
+use Rattle.printing.proofs.NeverEmpty.{printed_never_empty}
 use Rattle.print_file.proofs.Whole.{printed_whole}
 use Rattle.print_file.proofs.print_file.Goals as goal
 
@@ -16,6 +20,15 @@ on_ok (Err e) a f = tt
 on_err : {T E A B : Type 0} (r : Result T E) → OnErr r A → (A → B) → OnErr r B
 on_err (Ok v) a f = tt
 on_err (Err e) a f = f a
+
+none_written : {T E : Type 0} (r : Result T E) (tone : Tone) (input held : Option (List ℕ))
+    → OnErr r (IfSome input (λ file. AppendsFront held held (printed tone file)))
+none_written (Ok v) tone input held = tt
+none_written (Err e) tone None held = tt
+none_written (Err e) tone (Some file) held = (0, printed_never_empty tone file, Appends-nil held)
+
+pub returns-in_err-length-clause-front : goal.returns-in_err-length-clause-front
+returns-in_err-length-clause-front g c = none_written c.from_residual.result c.args.tone _ _
 
 pub returns : goal.returns
 returns g c =

@@ -25,12 +25,13 @@ loop-length-init g c = (search rules, Appends-nil _)
 pub returns-in_err-written-clause-front : goal.returns-in_err-written-clause-front
 returns-in_err-written-clause-front g c =
     let before = c.loop-length.invariant in
-    on_err c.from_residual.result (c.loop-length.length, Appends-kept _ _ _ _ before.1 c.in_err-written.ensures.bytes)
+    on_err c.from_residual.result (c.loop-length.length, search rules, Appends-kept _ _ _ _ before.1 c.in_err-written.ensures.bytes)
 
 pub returns-then-written-eq0-clause-front : goal.returns-then-written-eq0-clause-front
 returns-then-written-eq0-clause-front g c =
     let before = c.loop-length.invariant in (
       c.loop-length.length + c.in_ok-written.written,
+      search rules,
       written_behind _ _ _ _ _ _ (search rules) before.1 c.in_ok-written.ensures.bytes,
     )
 
