@@ -7,11 +7,12 @@ use Rattle.std.proofs.lemmas.List.{length-map}
 use Rattle.toolkit.specs.Differences.{as_difference}
 use Rattle.toolkit.specs.Orders.{Ranged, to_naturals}
 use Rattle.frame.specs.Sites.{Frame, Colour, highest_sample}
+use Rattle.answers.specs.Given.{Given, given_at}
 use Rattle.answers.specs.Calls.{Admitted, AdmittedAt}
 use Rattle.answers.proofs.Admission.{admitted_at_zero}
-use Rattle.method.specs.Planes.{output, less_black, number_at, entry_at}
+use Rattle.method.specs.Planes.{output, less_black}
 use Rattle.method.specs.Gradients.{mosaic}
-use Rattle.correspondence.specs.Comparison.{brightened, KeepsRange, SumsAreSamples, taken_off, NoneBelow}
+use Rattle.correspondence.specs.Comparison.{brightened, KeepsRange, SumsAreSamples, taken_off, NoneBelow, number_for, entry_for, given_taken_off}
 use Rattle.method.proofs.PlaneLaws.{number_is_output}
 use Rattle.method.proofs.Range.{output_ranged}
 use Rattle.method.proofs.Sizes.{samples_ranged, usual_allowed}
@@ -44,32 +45,39 @@ pub taken_off_is : (b : ℕ) (f : Frame) → NoneBelow b f → taken_off b f ≡
 unfolding taken_off brightened
 taken_off_is b f none t = record f { samples = less_each b f.samples none t }
 
-module _ (b : ℕ) (f : Frame) (a : Admitted f) (none : NoneBelow b f) where
-  sample_less : (z : ℕ) → b ≤ z → z ≤ highest_sample
-      → (pos 0 ≤ℤ (pos z +ℤ neg_ℤ (pos b))) × ((pos z +ℤ neg_ℤ (pos b)) ≤ℤ pos highest_sample)
-  sample_less z h l = simp to_naturals (omega arith)
+sample_less : (b z : ℕ) → b ≤ z → z ≤ highest_sample
+    → (pos 0 ≤ℤ (pos z +ℤ neg_ℤ (pos b))) × ((pos z +ℤ neg_ℤ (pos b)) ≤ℤ pos highest_sample)
+sample_less b z h l = simp to_naturals (omega arith)
 
-  less_keeps_range : KeepsRange (neg_ℤ (pos b)) f
-  less_keeps_range n h = sample_less _ (none n h) (a.samples_in_range n h)
+-- a number less 0 and with −b added is that number less b
+less_zero : (b : ℕ) (v : ℤ) → less_black 0 v +ℤ neg_ℤ (pos b) ≡ less_black b v
+unfolding less_black
+less_zero b v = rw (as_difference v) (simp to_naturals (omega arith))
 
-  pub taken_off_admitted : AdmittedAt (taken_off b f) 0
+module _ (given : Given) (a : Admitted given.frame) (none : NoneBelow given.black given.frame) where
+  less_keeps_range : KeepsRange (neg_ℤ (pos given.black)) given.frame
+  less_keeps_range n h = sample_less given.black _ (none n h) (a.samples_in_range n h)
+
+  pub taken_off_admitted : AdmittedAt (given_taken_off given)
   taken_off_admitted =
-      rw (taken_off_is b f none) (admitted_at_zero _ (brightened_admitted (neg_ℤ (pos b)) f a less_keeps_range))
+      rw (taken_off_is given.black given.frame none)
+      (admitted_at_zero _ (brightened_admitted (neg_ℤ (pos given.black)) given.frame a less_keeps_range))
 
-  -- a number less 0 and with −b added is that number less b
-  less_zero : (v : ℤ) → less_black 0 v +ℤ neg_ℤ (pos b) ≡ less_black b v
-  unfolding less_black
-  less_zero v = rw (as_difference v) (simp to_naturals (omega arith))
-
-  pub number_taken_off : (c : Colour) (i j : ℕ) → i < f.height → j < f.width → number_at (taken_off b f) 0 c i j ≡ number_at f b c i j
+  pub number_taken_off : (c : Colour) (i j : ℕ) → i < given.frame.height → j < given.frame.width
+      → number_for (given_taken_off given) c i j ≡ number_for given c i j
   number_taken_off c i j hi hj =
+      let f : Frame = given.frame in
+      let b : ℕ = given.black in
       rw (taken_off_is b f none)
-      (number_brightened (neg_ℤ (pos b)) f a less_keeps_range 0 c i j hi hj
+      (number_brightened (neg_ℤ (pos b)) (given_at f 0) a less_keeps_range c i j hi hj
       ∙ (ap (λ (x : ℤ). x +ℤ neg_ℤ (pos b)) (number_is_output f 0 c i j hi hj)
-      ∙ (less_zero (output (mosaic f) c i j) ∙ sym (number_is_output f b c i j hi hj))))
+      ∙ (less_zero b (output (mosaic f) c i j) ∙ sym (number_is_output f b c i j hi hj))))
 
-  pub entry_taken_off : (i j : ℕ) → i < f.height → j < f.width → entry_at (taken_off b f) i j ≡ entry_at f i j
-  entry_taken_off i j hi hj = rw (taken_off_is b f none) (entry_brightened (neg_ℤ (pos b)) f a less_keeps_range i j hi hj)
+  pub entry_taken_off : (i j : ℕ) → i < given.frame.height → j < given.frame.width
+      → entry_for (given_taken_off given) i j ≡ entry_for given i j
+  entry_taken_off i j hi hj =
+      rw (taken_off_is given.black given.frame none)
+      (entry_brightened (neg_ℤ (pos given.black)) given.frame a less_keeps_range i j hi hj)
 
 -- ---- the range
 

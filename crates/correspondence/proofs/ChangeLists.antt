@@ -7,9 +7,10 @@ use Rattle.toolkit.specs.Tests.{by_test, eqb_eq, eqb_ne}
 use Rattle.frame.specs.Sites.{Frame, Colour, green, colour}
 use Rattle.frame.specs.Colours.{trade}
 use Rattle.frame.proofs.Colours.{trade_twice}
+use Rattle.answers.specs.Given.{Given}
 use Rattle.answers.specs.Calls.{Admitted, AdmittedAt}
-use Rattle.method.specs.Planes.{number_at, entry_at}
-use Rattle.correspondence.specs.Comparison.{Change, left_right, top_bottom, transposing, trading, changed, changed_by, row_after, column_after, count_trades, trades_oddly, name_after, count_transposes, transposes_oddly, exchanged_code, code_after}
+use Rattle.method.specs.Planes.{entry_at}
+use Rattle.correspondence.specs.Comparison.{Change, left_right, top_bottom, transposing, trading, changed, changed_by, row_after, column_after, count_trades, trades_oddly, name_after, count_transposes, transposes_oddly, exchanged_code, code_after, number_for, number_after, given_changed, given_changed_by}
 use Rattle.correspondence.proofs.Decisions.{act_code, exchanged_twice}
 use Rattle.correspondence.proofs.MosaicChanges.{act_colour}
 use Rattle.correspondence.proofs.FrameChanges.{changed_admitted, changed_admitted_at, point_inside, point_colour, point_number, point_entry}
@@ -48,10 +49,10 @@ pub green_keeps_name : (gs : List Change) → name_after gs green ≡ green
 unfolding name_after
 green_keeps_name gs = by_test (trades_oddly gs) _ (λ t. rw t) (λ t. rw t)
 
-pub list_admitted : (gs : List Change) (f : Frame) (b : ℕ) → AdmittedAt f b → AdmittedAt (changed_by gs f) b
+pub list_admitted : (gs : List Change) (given : Given) → AdmittedAt given → AdmittedAt (given_changed_by gs given)
 unfolding changed_by
-list_admitted [] f b a = a
-list_admitted (g ∷ gs) f b a = list_admitted gs (changed g f) b (changed_admitted_at f b a g)
+list_admitted [] given a = a
+list_admitted (g ∷ gs) given a = list_admitted gs (given_changed g given) (changed_admitted_at given a g)
 
 pub list_inside : (gs : List Change) (f : Frame) (i j : ℕ) → i < f.height → j < f.width
     → (row_after gs f i j < (changed_by gs f).height) × (column_after gs f i j < (changed_by gs f).width)
@@ -68,14 +69,16 @@ list_colour (g ∷ gs) f a i j hi hj =
     list_colour gs (changed g f) (changed_admitted f a g) _ _ p.0 p.1
     ∙ (ap (name_after gs) (point_colour g f i j hi hj a) ∙ sym (name_step g gs (colour f.phase i j)))
 
-pub list_number : (gs : List Change) (f : Frame) → Admitted f → (b : ℕ) (c : Colour) (i j : ℕ) → i < f.height → j < f.width
-    → number_at (changed_by gs f) b (name_after gs c) (row_after gs f i j) (column_after gs f i j) ≡ number_at f b c i j
+pub list_number : (gs : List Change) (given : Given) → Admitted given.frame
+    → (c : Colour) (i j : ℕ) → i < given.frame.height → j < given.frame.width
+    → number_after gs given (name_after gs c) i j ≡ number_for given c i j
 unfolding changed_by row_after column_after
-list_number [] f a b c i j hi hj = unfold name_after trades_oddly count_trades in refl
-list_number (g ∷ gs) f a b c i j hi hj =
-    let p = point_inside g f i j hi hj in
+list_number [] given a c i j hi hj = unfold name_after trades_oddly count_trades in refl
+list_number (g ∷ gs) given a c i j hi hj =
+    let p = point_inside g given.frame i j hi hj in
     rw (name_step g gs c)
-    (list_number gs (changed g f) (changed_admitted f a g) b (act_colour g c) _ _ p.0 p.1 ∙ point_number g f i j hi hj a b c)
+    (list_number gs (given_changed g given) (changed_admitted given.frame a g) (act_colour g c) _ _ p.0 p.1
+    ∙ point_number g given.frame i j hi hj a given.black c)
 
 pub list_entry : (gs : List Change) (f : Frame) → Admitted f → (i j : ℕ) → i < f.height → j < f.width
     → entry_at (changed_by gs f) (row_after gs f i j) (column_after gs f i j) ≡ code_after gs (entry_at f i j)

@@ -9,11 +9,12 @@ use Rattle.toolkit.specs.Differences.{as_difference}
 use Rattle.toolkit.specs.Orders.{to_naturals}
 use Rattle.toolkit.specs.Naturals.{not_negative}
 use Rattle.frame.specs.Sites.{Frame, Colour, sample, highest_sample}
+use Rattle.answers.specs.Given.{Given}
 use Rattle.answers.specs.Calls.{Admitted}
 use Rattle.frame.proofs.Sites.{side_low}
 use Rattle.method.specs.Gradients.{mosaic}
-use Rattle.method.specs.Planes.{output, less_black, number_at, entry_at}
-use Rattle.correspondence.specs.Comparison.{brightened, KeepsRange, SumsAreSamples}
+use Rattle.method.specs.Planes.{output, less_black, entry_at}
+use Rattle.correspondence.specs.Comparison.{brightened, KeepsRange, SumsAreSamples, number_for, given_brightened}
 use Rattle.method.proofs.PlaneLaws.{number_is_output, entry_is_code}
 use Rattle.correspondence.proofs.Brightness.{Brighter, entry_same, output_brighter}
 
@@ -69,16 +70,20 @@ module _ (k : ℤ) (f : Frame) (a : Admitted f) (keeps : KeepsRange k f) where
     colours = λ i j hi hj. refl;
   }
 
-  pub number_brightened : (b : ℕ) (c : Colour) (i j : ℕ) → i < f.height → j < f.width
-      → number_at (brightened k f) b c i j ≡ number_at f b c i j +ℤ k
-  unfolding mosaic brightened
-  number_brightened b c i j hi hj =
-      number_is_output (brightened k f) b c i j hi hj
-      ∙ (ap (less_black b) (output_brighter k (mosaic f) (mosaic (brightened k f)) brighter_mosaic c i j hi hj)
-      ∙ (less_black_adds b (output (mosaic f) c i j) k ∙ ap (λ (x : ℤ). x +ℤ k) (sym (number_is_output f b c i j hi hj))))
-
   pub entry_brightened : (i j : ℕ) → i < f.height → j < f.width → entry_at (brightened k f) i j ≡ entry_at f i j
   unfolding mosaic brightened
   entry_brightened i j hi hj =
       entry_is_code (brightened k f) i j hi hj
       ∙ (entry_same k (mosaic f) (mosaic (brightened k f)) brighter_mosaic i j hi hj ∙ sym (entry_is_code f i j hi hj))
+
+module _ (k : ℤ) (given : Given) (a : Admitted given.frame) (keeps : KeepsRange k given.frame) where
+  pub number_brightened : (c : Colour) (i j : ℕ) → i < given.frame.height → j < given.frame.width
+      → number_for (given_brightened k given) c i j ≡ number_for given c i j +ℤ k
+  unfolding mosaic brightened
+  number_brightened c i j hi hj =
+      let f : Frame = given.frame in
+      let b : ℕ = given.black in
+      number_is_output (brightened k f) b c i j hi hj
+      ∙ (ap (less_black b) (output_brighter k (mosaic f) (mosaic (brightened k f)) (brighter_mosaic k f a keeps) c i j hi hj)
+      ∙ (less_black_adds b (output (mosaic f) c i j) k
+      ∙ ap (λ (x : ℤ). x +ℤ k) (sym (number_is_output f b c i j hi hj))))

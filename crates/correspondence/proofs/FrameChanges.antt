@@ -12,13 +12,14 @@ use Rattle.toolkit.specs.Tables.{get_d_tabulate}
 use Rattle.toolkit.specs.Raster.{raster, length_raster, getD_raster}
 use Rattle.frame.specs.Sites.{Frame, Colour, sample, highest_sample, side_allowed, phase_allowed, colour, mirrored_phase, flipped_phase, transposed_phase, traded_phase}
 use Rattle.frame.proofs.Colours.{by_phase, colour_mirrored, colour_flipped, colour_transposed, colour_traded}
+use Rattle.answers.specs.Given.{Given}
 use Rattle.answers.specs.Calls.{most_under, Admitted, AdmittedAt}
 use Rattle.frame.proofs.Sites.{side_low}
 use Rattle.method.specs.Gradients.{mosaic}
 use Rattle.method.specs.Green.{decision_entry}
 use Rattle.method.specs.Planes.{output, less_black, number_at, entry_at}
 use Rattle.method.proofs.PlaneLaws.{number_is_output, entry_is_code}
-use Rattle.correspondence.specs.Comparison.{Change, left_right, top_bottom, transposing, trading, matching_row, matching_column, changed_height, changed_width, changed_phase, changed_samples, changed}
+use Rattle.correspondence.specs.Comparison.{Change, left_right, top_bottom, transposing, trading, matching_row, matching_column, changed_height, changed_width, changed_phase, changed_samples, changed, given_changed}
 use Rattle.correspondence.proofs.Decisions.{act_code}
 use Rattle.correspondence.proofs.MosaicChanges.{act_colour, Changed, entry_both, output_both}
 
@@ -125,12 +126,12 @@ module _ (f : Frame) (a : Admitted f) where
     colours = λ i j hi hj. colour_matches g f.height f.width f.phase i j a.phase_is_allowed hi hj;
   }
 
-pub changed_admitted_at : (f : Frame) (b : ℕ) → AdmittedAt f b → (g : Change) → AdmittedAt (changed g f) b
+pub changed_admitted_at : (given : Given) → AdmittedAt given → (g : Change) → AdmittedAt (given_changed g given)
 unfolding changed
-changed_admitted_at f b a g = record {
-  admitted = changed_admitted f a.admitted g;
+changed_admitted_at given a g = record {
+  admitted = changed_admitted given.frame a.admitted g;
   black_low = a.black_low;
-  none_under = changed_each f a.admitted (λ z. b ≤ z + most_under) a.none_under g;
+  none_under = changed_each given.frame a.admitted (λ z. given.black ≤ z + most_under) a.none_under g;
 }
 
 -- what one change does at a point

@@ -5,6 +5,7 @@ use Rattle.std.proofs.Common.{sym, ◌∙◌, ap, arith}
 use Rattle.toolkit.specs.Tests.{holds, leb_le, leb_yes, eqb_eq, eqb_yes, and_true}
 use Rattle.toolkit.specs.Tables.{tabulate, length_tabulate}
 use Rattle.frame.specs.Sites.{Frame, red, green, blue}
+use Rattle.answers.specs.Given.{Given}
 use Rattle.answers.specs.Calls.{returned, lengths_fit, lengths_allowed, develop_answer, after, AdmittedAt, Answer}
 use Rattle.method.specs.Green.{decision_map}
 use Rattle.method.specs.Planes.{plane}
@@ -76,34 +77,37 @@ least_allowed f = record {
 
 -- ---- acceptance
 
-module _ (f : Frame) (b : ℕ) where
-  pub accepted_admitted : AcceptedByDevelop f b → AdmittedAt f b
+module _ (given : Given) where
+  pub accepted_admitted : AcceptedByDevelop given → AdmittedAt given
   accepted_admitted accepted =
-      method.returned_admitted f b (lengths_of (least f)) (accepted (least f) (least_allowed f) _ _ (called f b (least f)))
+      method.returned_admitted given (lengths_of (least given.frame))
+      (accepted (least given.frame) (least_allowed given.frame) _ _ (called given.frame given.black (least given.frame)))
 
-  pub admitted_accepted_by_develop : AdmittedAt f b → AcceptedByDevelop f b
+  pub admitted_accepted_by_develop : AdmittedAt given → AcceptedByDevelop given
   admitted_accepted_by_develop a before allowed answer left call =
-      ap returned call.answered ∙ method.admitted_accepted f b a (lengths_of before) (holds (yes_lengths f before allowed))
+      ap returned call.answered
+      ∙ method.admitted_accepted given a (lengths_of before) (holds (yes_lengths given.frame before allowed))
 
   -- acceptance is that of the definitions
-  pub accepted_defined : AcceptedByDevelop f b → Accepted f b
-  accepted_defined accepted = method.admitted_accepted f b (accepted_admitted accepted)
+  pub accepted_defined : AcceptedByDevelop given → Accepted given
+  accepted_defined accepted = method.admitted_accepted given (accepted_admitted accepted)
 
-  pub defined_accepted : Accepted f b → AcceptedByDevelop f b
-  defined_accepted accepted = admitted_accepted_by_develop (method.accepted_admitted f b accepted)
+  pub defined_accepted : Accepted given → AcceptedByDevelop given
+  defined_accepted accepted = admitted_accepted_by_develop (method.accepted_admitted given accepted)
 
   -- one call that returns 0, 0 is enough
-  pub developed_accepted : Developed f b → AcceptedByDevelop f b
+  pub developed_accepted : Developed given → AcceptedByDevelop given
   developed_accepted call =
       admitted_accepted_by_develop
-      (method.returned_admitted f b (lengths_of call.before) (sym (ap returned call.leaves.answered) ∙ call.succeeds))
+      (method.returned_admitted given (lengths_of call.before) (sym (ap returned call.leaves.answered) ∙ call.succeeds))
 
   -- an accepted frame has such a call, with any buffers of the allowed lengths
-  pub accepted_developed : AcceptedByDevelop f b → (before : Buffers) → LengthsAllowed f before → Developed f b
+  pub accepted_developed : AcceptedByDevelop given → (before : Buffers) → LengthsAllowed given.frame before
+      → Developed given
   accepted_developed accepted before allowed = record {
     before = before;
     answer = _;
     left = _;
-    leaves = called f b before;
-    succeeds = accepted before allowed _ _ (called f b before);
+    leaves = called given.frame given.black before;
+    succeeds = accepted before allowed _ _ (called given.frame given.black before);
   }

@@ -5,11 +5,12 @@ use Rattle.std.proofs.Common.{sym, ◌∙◌, ap, arith}
 use Rattle.std.proofs.Math.Arith.{digits_lt}
 use Rattle.std.proofs.lemmas.List.{get_or-map, length-map}
 use Rattle.toolkit.specs.Tests.{eqb_yes}
-use Rattle.frame.specs.Sites.{Frame, highest_sample, Colour, red, green, blue}
+use Rattle.frame.specs.Sites.{highest_sample, Colour, red, green, blue}
+use Rattle.answers.specs.Given.{Given}
 use Rattle.answers.specs.Calls.{in_order, success, returned, clamp_answer, held, clamped, unclamped_answer, Answer, Clamped}
 use Rattle.answers.proofs.Admission.{returned_done}
 use Rattle.answers.proofs.Clamped.{thirteen_in_figures, equal_lengths, curve_done}
-use Rattle.correspondence.specs.Comparison.{Change, changed_by, row_after, column_after, name_after}
+use Rattle.correspondence.specs.Comparison.{Change, row_after, column_after, name_after, given_changed_by}
 use Rattle.correspondence.proofs.ChangeLists.{green_keeps_name}
 use Rattle.tone_curve.specs.ToneCurve.{curved_number, curved}
 use Rattle.curve.proofs.Plane.{held_clamped, clamped_passes}
@@ -116,23 +117,25 @@ module _ {numbers : List ℤ} (clamping : PlaneClamped numbers) where
 -- ---- a developed frame
 
 -- clamp, and curve for what that leaves, return 0, 0 for every plane of it, with any planes of the length to fill
-module _ {f : Frame} {b : ℕ} (call : Developed f b) (c : Colour) where
-  size : length (plane_of call.left c) ≡ f.height * f.width
-  size = (numbers_left f b call.before call.answer call.left call.leaves call.succeeds c).0
+module _ {given : Given} (call : Developed given) (c : Colour) where
+  size : length (plane_of call.left c) ≡ given.frame.height * given.frame.width
+  size = (numbers_left given.frame given.black call.before call.answer call.left call.leaves call.succeeds c).0
 
   pub clamp_accepts : (before : List ℤ) (answer : Answer) (left : List ℤ) → ClampLeaves (plane_of call.left c) before answer left
-      → length before ≡ f.height * f.width → returned answer ≡ success
+      → length before ≡ given.frame.height * given.frame.width → returned answer ≡ success
   clamp_accepts before answer left clamping same =
       equal_lengths_clamped (plane_of call.left c) before answer left clamping (same ∙ sym size)
 
   pub curve_accepts : (clamping : PlaneClamped (plane_of call.left c)) (before : List ℤ) (answer : Answer) (left : List ℤ)
-      → CurveLeaves clamping.left before answer left → length before ≡ f.height * f.width → returned answer ≡ success
+      → CurveLeaves clamping.left before answer left → length before ≡ given.frame.height * given.frame.width
+      → returned answer ≡ success
   curve_accepts clamping before answer left curving same =
       clamped_accepted clamping before answer left curving (same ∙ sym size ∙ sym (as_many_clamped clamping))
 
   -- so there are such calls
-  pub goes_through : (to_clamp to_curve : List ℤ) → length to_clamp ≡ f.height * f.width → length to_curve ≡ f.height * f.width
-      → DevelopedCurved f b c
+  pub goes_through : (to_clamp to_curve : List ℤ) → length to_clamp ≡ given.frame.height * given.frame.width
+      → length to_curve ≡ given.frame.height * given.frame.width
+      → DevelopedCurved given c
   goes_through to_clamp to_curve clamp_length curve_length =
       let clamping : PlaneClamped (plane_of call.left c) = record {
         before = to_clamp;
@@ -153,13 +156,14 @@ module _ {f : Frame} {b : ℕ} (call : Developed f b) (c : Colour) where
         };
       }
 
-module _ {f : Frame} {b : ℕ} {c : Colour} (calls : DevelopedCurved f b c) (i j : ℕ) (hi : i < f.height) (hj : j < f.width) where
+module _ {given : Given} {c : Colour} (calls : DevelopedCurved given c) (i j : ℕ) (hi : i < given.frame.height) (hj : j < given.frame.width) where
   -- the number at (i,j) is the curve's entry at the developed number held to 0..1,023
   pub curved_left_is : curved_left calls i j ≡ curved_number (held highest_sample (number_left calls.developed c i j))
   curved_left_is =
-      let inside : i * f.width + j < length (plane_of calls.developed.left c) = omega (arith, size calls.developed c, digits_lt hi hj) in
-      number_is calls.curving (i * f.width + j) (omega (arith, as_many_clamped calls.clamping))
-      ∙ ap curved_number (held_number_is calls.clamping (i * f.width + j) inside)
+      let inside : i * given.frame.width + j < length (plane_of calls.developed.left c) =
+      omega (arith, size calls.developed c, digits_lt hi hj) in
+      number_is calls.curving (i * given.frame.width + j) (omega (arith, as_many_clamped calls.clamping))
+      ∙ ap curved_number (held_number_is calls.clamping (i * given.frame.width + j) inside)
 
   -- so it follows the rule there
   pub curved_left_follows : FollowsRule (held highest_sample (number_left calls.developed c i j)) (curved_left calls i j)
@@ -167,19 +171,21 @@ module _ {f : Frame} {b : ℕ} {c : Colour} (calls : DevelopedCurved f b c) (i j
 
 -- ---- document 00, demand 3: frames that correspond show the same numbers through the curve
 
-same_number : (gs : List Change) {f : Frame} {b : ℕ} (first : Developed f b) (last : Developed (changed_by gs f) b) (c : Colour) (i j : ℕ)
+same_number : (gs : List Change) {given : Given} (first : Developed given) (last : Developed (given_changed_by gs given)) (c : Colour) (i j : ℕ)
     → Corresponds gs first last i j
-    → number_left last (name_after gs c) (row_after gs f i j) (column_after gs f i j) ≡ number_left first c i j
+    → number_left last (name_after gs c) (row_after gs given.frame i j) (column_after gs given.frame i j)
+    ≡ number_left first c i j
 same_number gs first last red i j point = point.same_red
 same_number gs first last green i j point = rw (green_keeps_name gs) point.same_green
 same_number gs first last blue i j point = point.same_blue
 
-pub every_list_of_changes_curved : (gs : List Change) (f : Frame) (b : ℕ) (c : Colour) (first : DevelopedCurved f b c)
-    (last : DevelopedCurved (changed_by gs f) b (name_after gs c)) (i j : ℕ) → i < f.height → j < f.width
-    → curved_left last (row_after gs f i j) (column_after gs f i j) ≡ curved_left first i j
-every_list_of_changes_curved gs f b c first last i j hi hj =
-    let accepted = developed_accepted f b first.developed in
-    let point = (every_list_of_changes gs f b accepted).1 first.developed last.developed i j hi hj in
+pub every_list_of_changes_curved : (gs : List Change) (given : Given) (c : Colour) (first : DevelopedCurved given c)
+    (last : DevelopedCurved (given_changed_by gs given) (name_after gs c)) (i j : ℕ) → i < given.frame.height
+    → j < given.frame.width
+    → curved_left last (row_after gs given.frame i j) (column_after gs given.frame i j) ≡ curved_left first i j
+every_list_of_changes_curved gs given c first last i j hi hj =
+    let accepted = developed_accepted given first.developed in
+    let point = (every_list_of_changes gs given accepted).1 first.developed last.developed i j hi hj in
     curved_left_is last _ _ point.row_inside point.column_inside
     ∙ ap (λ (z : ℤ). curved_number (held highest_sample z)) (same_number gs first.developed last.developed c i j point)
     ∙ sym (curved_left_is first i j hi hj)

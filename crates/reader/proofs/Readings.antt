@@ -28,16 +28,16 @@ use Rattle.reader.specs.ReadSteps.{header_answer, first_answer}
 -- the first five tests are one function of the code
 five_tests : (size check number allowed filler : Bool) (rest : List Answer)
     → in_order (
-      test size FileLength ∷ test check (Check 0) ∷ test number (BlockNumber 0) ∷ test allowed Header ∷ test filler (Filler 0) ∷ rest
+    test size FileLength ∷ test check (Check 0) ∷ test number (BlockNumber 0) ∷ test allowed Header ∷ test filler (Filler 0) ∷ rest
     )
     ≡ in_order (
-      in_order (
-        test size FileLength
-        ∷ in_order (test check (Check 0) ∷ test number (BlockNumber 0) ∷ [])
-        ∷ in_order (test allowed Header ∷ test filler (Filler 0) ∷ [])
-        ∷ []
-      )
-      ∷ rest
+    in_order (
+    test size FileLength
+    ∷ in_order (test check (Check 0) ∷ test number (BlockNumber 0) ∷ [])
+    ∷ in_order (test allowed Header ∷ test filler (Filler 0) ∷ [])
+    ∷ []
+    )
+    ∷ rest
     )
 unfolding in_order
 five_tests true true true true true rest = refl

@@ -29,12 +29,12 @@ module _ (shape : Shape) (mosaic file : List ℕ) where
 
   -- numbers 1 and 2, then 3, then 4, then 5
   answer_is : answer ≡ in_order (
-    shape_answer shape
-    ∷ count_answer shape (length mosaic)
-    ∷ test (eqb (length file) (file_length (frame shape mosaic))) BufferLength
-    ∷ samples_answer mosaic
-    ∷ []
-  )
+      shape_answer shape
+      ∷ count_answer shape (length mosaic)
+      ∷ test (eqb (length file) (file_length (frame shape mosaic))) BufferLength
+      ∷ samples_answer mosaic
+      ∷ []
+      )
   unfolding write_answer
   answer_is = shape_first shape mosaic _ ∙ rw (count_is shape mosaic)
 
