@@ -10,7 +10,7 @@ use Rattle.frame.specs.Sites.{Frame, Colour, highest_sample}
 use Rattle.answers.specs.Given.{Given, given_at}
 use Rattle.answers.specs.Calls.{Admitted, AdmittedAt}
 use Rattle.answers.proofs.Admission.{admitted_at_zero}
-use Rattle.method.specs.Planes.{output, less_black}
+use Rattle.method.specs.Planes.{number_at, output, less_black}
 use Rattle.method.specs.Gradients.{mosaic}
 use Rattle.correspondence.specs.Comparison.{brightened, KeepsRange, SumsAreSamples, taken_off, NoneBelow, number_for, entry_for, given_taken_off}
 use Rattle.method.proofs.PlaneLaws.{number_is_output}
