@@ -126,8 +126,8 @@ module _ (f f' : Frame) (i j i' j' : ℕ) (far : FarFromEdges f i j) (far' : Far
       entry_is_code f i j (omega (arith, far.rows_below)) (omega (arith, far.columns_east)) ∙ entry_alike _ _ _ _ _ _ window_alike
       ∙ sym (entry_is_code f' i' j' (omega (arith, far'.rows_below)) (omega (arith, far'.columns_east)))
 
--- ---- the row numbers of the code, by the contracts of positions `row_near` and `edge_row` at a distance off, a constant of the call.
--- A call is given h, x, down and up
+-- ---- the row numbers of the code, by the contracts of positions `row_near` and `edge_row` at a distance off, a constant
+-- of the call. A call is given h, x, down and up
 
 module _ (off : ℕ) (fits : Fits w64 off) (κs : Lfts 1) (h x down up : ℕ) where
   -- where row x is read for a row i that is far from both edges, off rows away or less, `row_near` answers by adding and subtracting
@@ -139,11 +139,11 @@ module _ (off : ℕ) (fits : Fits w64 off) (κs : Lfts 1) (h x down up : ℕ) wh
   pub never_reflected : edge_row_contract.Asked off fits κs (h, (x, (down, (up, tt)))) → (i : ℕ) → Inner h 0 i → ¬ (Near off i x)
   never_reflected asked i inner near = asked.1.4 (inner_off _ _ inner near)
 
--- ---- at the constants by which the stages call them: how far from the row that a stage hands over the site may stand for which it reads
--- there. First hands over the row two below its own
+-- ---- at the constants by which the stages call them: how far from the row that a stage hands over the site may stand for
+-- which it reads there. First hands over the row two below its own
 
--- row y is read for a row i that is far from both edges, d rows away or less: for the row `below` under it, at the constant off, what reflects
--- is never asked
+-- row y is read for a row i that is far from both edges, d rows away or less: for the row `below` rows under it, at the
+-- constant off, what reflects is never asked
 abbrev NeverReflects : ℕ → ℕ → ℕ → Type 0
 NeverReflects off below d =
     (fits : Fits w64 off) (κs : Lfts 1) (h y down up : ℕ) → edge_row_contract.Asked off fits κs (h, (y + below, (down, (up, tt))))
@@ -162,7 +162,7 @@ never_at off below d few fits κs h y down up asked i inner near =
     never_reflected off fits κs h (y + below) down up asked i inner
     (record { not_before = omega (arith, near.not_before); not_behind = omega (arith, near.not_behind) })
 
--- "no step for such a site calls what reflects"
+-- so no stage calls what reflects for a row that is read for a site far from every edge
 pub stages_never_reflect : StagesNeverReflect
 stages_never_reflect =
     let figures = distances_in_figures in record {
