@@ -1,12 +1,12 @@
 -- Document 00, demand 1, for each call: what is returned is a row of document 01's table with its condition (`Rows`, `ReadRows`), and
 -- whatever is returned other than 0, 0 leaves every lent buffer as it was. That no call traps, runs without end or touches anything outside
 -- what it is lent is proved of every function by the language; what is lent to be read alone cannot change. Assumes nothing.
-use Rattle.std.specs.Prelude.{◌≡◌, refl, List, ℕ, eqb, ℤ, Err, Ok}
+use Rattle.std.specs.Prelude.{◌≡◌, refl, List, ℕ, ℤ, Err, Ok}
 use Rattle.std.proofs.Common.{◌∙◌, ap}
 use Rattle.std.proofs.Math.ListN.{length}
 use Rattle.frame.specs.Sites.{Frame}
-use Rattle.answers.specs.Calls.{success, returned, returned_by_read, lengths_allowed, develop_answer, clamp_answer, Answer, ReadAnswer, no_refusal}
-use Rattle.frame_file.specs.FrameFile.{file_length, Reading, answer_of, samples_of, reading, read_answer, samples_after_read, write_answer, file_after_write}
+use Rattle.answers.specs.Calls.{success, returned, returned_by_read, Answer, ReadAnswer}
+use Rattle.frame_file.specs.FrameFile.{file_length, Reading, answer_of, samples_of, reading, read_answer, samples_after_read, file_after_write}
 use Rattle.calls.specs.Buffers.{Buffers, buffers, lengths_of}
 use Rattle.calls.specs.WhatCallsLeave.{DevelopLeaves, ClampLeaves, CurveLeaves, ReadLeaves, WriteLeaves}
 use Rattle.demands.specs.CallsMade.{LengthsAllowed}

@@ -1,6 +1,6 @@
 -- What read answers is a row of its table. Assumes nothing.
 use Rattle.std.specs.Prelude.{◌≡◌, refl, List, [], ◌∷◌, get_or, drop, Ok, Err}
-use Rattle.std.proofs.Common.{ap, subst, sym, ◌∙◌, ⊎_elim, eq-or-lt_of_le, le_of_suc-le-suc, arith, length-drop, get_or-drop}
+use Rattle.std.proofs.Common.{ap, subst, sym, ◌∙◌, arith, length-drop, get_or-drop}
 use Prim.Native.Nat.{ℕ, zero, suc, ◌+◌, ◌*◌, ◌-◌, ◌%◌, ◌<◌, ◌≤◌}
 use Rattle.std.proofs.Math.ListN.{length}
 use Rattle.answers.specs.declared.Refusal.TheVariants.{BufferLength, FileLength, Check, Header, BlockNumber, Filler}

@@ -1,18 +1,17 @@
 -- What a call answers by its tests in order is a row of the table, for any tests; and the tests of develop, write, clamp and curve.
 -- `ReadRows` has those of read. Assumes nothing.
-use Rattle.std.specs.Prelude.{◌≡◌, refl, ◌⊎◌, Bool, true, false, not, ◌&&◌, ◌||◌, ℕ, zero, suc, ◌+◌, ◌*◌, ◌<◌, ◌≤◌, ℤ, pos, ◌<ℤ◌, length, get_or, Err}
-use Rattle.std.proofs.Common.{subst, arith, inl, inr}
+use Rattle.std.specs.Prelude.{◌≡◌, refl, Bool, true, false, not, ◌&&◌, ◌||◌, ℕ, zero, suc, ◌+◌, ◌*◌, ◌<◌, ◌≤◌, ℤ, pos, length, get_or, Err}
+use Rattle.std.proofs.Common.{subst, arith}
 use Rattle.std.specs.Int.Signed.{lt_z}
-use Rattle.std.proofs.lemmas.Int.{by_lt_z}
 use mathlib.Core.List.{List, [], ◌∷◌}
 use Rattle.answers.specs.declared.Refusal.{Refusal}
 use Rattle.answers.specs.declared.Refusal.TheVariants.{Size, Phase, MosaicLength, BufferLength, Sample, BlackLevel, UnderBlack, Unclamped}
 use Rattle.frame.specs.Sites.{Frame, side_allowed, phase_allowed, highest_sample}
-use Rattle.answers.specs.Calls.{Returned, number_and_place, returned, test, and_then, in_order, first_failing, sides_answer, phase_answer, mosaic_answer, samples_answer, lengths_allowed, develop_answer, clamp_answer, highest_black, black_answer, most_under, under_answer, unclamped, unclamped_answer, curve_answer, Answer, no_refusal, Clamped}
+use Rattle.answers.specs.Calls.{number_and_place, returned, test, and_then, in_order, first_failing, sides_answer, phase_answer, mosaic_answer, samples_answer, lengths_allowed, develop_answer, clamp_answer, highest_black, black_answer, most_under, under_answer, unclamped, unclamped_answer, curve_answer, Answer, no_refusal, Clamped}
 use Rattle.answers.specs.declared.Lengths.{Lengths}
 use Rattle.frame_file.specs.FrameFile.{file_length, write_answer}
 use Rattle.demands.specs.Conditions.{Decides, holds, fails, same_decides, both_decide, equal_decides, at_most_decides, not_below_decides, side_decides, by_condition}
-use Rattle.demands.specs.Rows.{row, Test, RowOf, refused_here, later, done, unless, FirstNot, each, SidesAllowed, develop_tests, write_tests, clamp_tests, curve_tests}
+use Rattle.demands.specs.Rows.{row, Test, RowOf, refused_here, later, done, unless, each, SidesAllowed, develop_tests, write_tests, clamp_tests, curve_tests}
 
 -- ---- laws: the sides
 

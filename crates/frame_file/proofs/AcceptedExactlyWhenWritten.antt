@@ -6,7 +6,7 @@ use Rattle.frame.specs.Sites.{Frame}
 use Rattle.answers.specs.Calls.{Admitted}
 use Rattle.frame_file.specs.Lists.{Below}
 use Rattle.frame_file.specs.FrameFile.{sample_count, block_count, written_file, stored_frame, reading}
-use Rattle.frame_file.proofs.ReadTests.{blocks_pass, blocks_passed, read_after_header, Accepted, accepted_file}
+use Rattle.frame_file.proofs.ReadTests.{blocks_pass, blocks_passed, read_after_header, accepted_file}
 use Rattle.frame_file.proofs.WrittenFile.{frame_of_written_file, written_header_passes, written_block_passes}
 use Rattle.frame_file.proofs.AcceptedFile.{file_is_written, stored_frame_admitted}
 

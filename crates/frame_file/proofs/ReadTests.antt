@@ -1,6 +1,6 @@
 -- Laws of read's chain of tests: what held where a file is accepted, and what is found where all tests hold up to a place.
 -- Assumes nothing.
-use Rattle.std.specs.Prelude.{◌≡◌, Bool, true, List, leb, eqb, length, Ok, Err}
+use Rattle.std.specs.Prelude.{◌≡◌, true, List, length, Ok, Err}
 use Rattle.std.proofs.Math.Path.{refl, subst}
 use Rattle.std.proofs.Math.Bool.{false}
 use Rattle.std.proofs.Math.Logic.{⊎_elim}
@@ -12,7 +12,7 @@ use Rattle.frame.specs.Sites.{Frame, side_allowed, phase_allowed}
 use Rattle.answers.specs.Calls.{Answer, no_refusal, and_then, in_order}
 use Rattle.answers.proofs.Admission.{test_done, in_order_done, done_in_order}
 use Rattle.frame_file.specs.Lists.{all_zero}
-use Rattle.frame_file.specs.FrameFile.{sample_count, block, has_tag, header, header_filler, block_count, file_length, stored_frame, Reading, length_allowed, check_holds, number_holds, header_allowed, filler_holds, block_tests, read_tests, reading}
+use Rattle.frame_file.specs.FrameFile.{sample_count, block, has_tag, header, header_filler, block_count, file_length, stored_frame, length_allowed, check_holds, number_holds, header_allowed, filler_holds, block_tests, read_tests, reading}
 
 -- a file is accepted as a frame exactly when all its tests pass and this is the frame that it holds
 pub accepted_passes : (a : Answer) (f g : Frame) → and_then a (Ok f) ≡ Ok g → (a ≡ no_refusal) × (f ≡ g)
@@ -43,7 +43,7 @@ module _ (file : List ℕ) (samples : ℕ) where
   blocks_passed n (suc left) e i h l =
       let (check, (number, (filler, rest))) = in_order_done _ e in
       let here : Passes file samples n =
-          record { check = test_done _ (Check n) check; number = test_done _ (BlockNumber n) number; filler = test_done _ (Filler n) filler } in
+      record { check = test_done _ (Check n) check; number = test_done _ (BlockNumber n) number; filler = test_done _ (Filler n) filler } in
       ⊎_elim (λ (q : n ≡ i). subst (Passes file samples) q here)
       (λ (q : n < i). blocks_passed (suc n) left (done_in_order _ rest) i q (omega arith)) (eq-or-lt_of_le h)
 

@@ -145,12 +145,12 @@ written_file f = joined (block_count (sample_count f)) (written_block f)
 unfoldable pub write_answer : Frame → ℕ → Answer
 write_answer f lent_length =
     in_order (
-      sides_answer f
-      ∷ phase_answer f
-      ∷ mosaic_answer f
-      ∷ test (eqb lent_length (file_length f)) BufferLength
-      ∷ samples_answer f.samples
-      ∷ []
+    sides_answer f
+    ∷ phase_answer f
+    ∷ mosaic_answer f
+    ∷ test (eqb lent_length (file_length f)) BufferLength
+    ∷ samples_answer f.samples
+    ∷ []
     )
 
 -- "Every refusal leaves every buffer untouched.": what the lent file holds after write

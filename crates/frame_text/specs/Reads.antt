@@ -10,7 +10,7 @@ use Rattle.answers.specs.declared.Refusal.{Refusal}
 use Rattle.answers.specs.declared.Refusal.TheVariants.{BufferLength}
 use Rattle.frame.specs.Sites.{Frame, frame}
 use Rattle.answers.specs.Calls.{develop_answer}
-use Rattle.frame_file.specs.FrameFile.{Reading, reading, shape_of, sample_count, block_count, stored_frame, answer_of, samples_of, read_answer, samples_after_read}
+use Rattle.frame_file.specs.FrameFile.{Reading, reading, shape_of, sample_count, stored_frame, answer_of, samples_of, read_answer, samples_after_read}
 use Rattle.frame_file.proofs.BlockSamples.{length_stored_samples}
 use Rattle.frame_file.proofs.ReadTests.{accepted_file}
 use Rattle.printing.specs.declared.Tone.{Tone}

@@ -3,7 +3,7 @@ use Rattle.std.specs.Prelude.{Err, Ok}
 use mathlib.Core.Path.{◌≡◌, refl, sym, ◌∙◌, ap, ap₂}
 use mathlib.Core.Bool.{Bool, true, false}
 use mathlib.Core.List.{List, [], ◌∷◌, ◌++◌}
-use Prim.Native.Nat.{ℕ, zero, suc, ◌*◌, ◌-◌, ◌≤◌, ◌<◌}
+use Prim.Native.Nat.{ℕ, ◌*◌, ◌-◌, ◌≤◌, ◌<◌}
 use native.Mathlib.Nat.{sub-zero, le_refl}
 use native.Mathlib.Omega.{arith}
 use lib.Dec.{leb, eqb}
@@ -13,7 +13,6 @@ use Rattle.toolkit.specs.Tests.{holds, leb_le, leb_yes, leb_no, eqb_yes, and_tru
 use Rattle.frame.specs.declared.Shape.{Shape}
 use Rattle.answers.specs.declared.Refusal.{Refusal}
 use Rattle.answers.specs.declared.Refusal.TheVariants.{BufferLength, FileLength, Check, Header, BlockNumber, Filler}
-use Rattle.frame.specs.Sites.{Frame}
 use Rattle.answers.specs.Calls.{test, and_then, in_order, Answer, ReadAnswer, no_refusal}
 use Rattle.answers.proofs.Admission.{test_done, in_order_done}
 use Rattle.frame.proofs.Sites.{side_high}

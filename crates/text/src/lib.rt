@@ -4,8 +4,8 @@
 ghost use Rattle.std.specs.Prelude.{◌≡◌, [], ◌∷◌, ◌++◌, ◌+◌, ◌≤◌, length};
 ghost use Rattle.printing.specs.Printing.{decimal, numbers_line, refusal_text};
 
-use arrayvec::ArrayString;
 use answers::Refusal;
+use arrayvec::ArrayString;
 use itoa::Buffer;
 
 // The bytes that a text has room for: 23 of the heading, and 25 for each of 1,024 sites.
@@ -59,6 +59,9 @@ pub fn refusal(why: Refusal) -> Text
 {
     let mut text = Text::new();
     text.push_str("refused ");
-    numbers_line(&mut text, &[answers::number_of(why), answers::place_of(why)]);
+    numbers_line(
+        &mut text,
+        &[answers::number_of(why), answers::place_of(why)],
+    );
     text
 }
