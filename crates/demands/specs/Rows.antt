@@ -55,13 +55,13 @@ develop_tests f b Allowed =
     ∷ each 0 (λ z. b ≤ z + 64) f.samples 12
     ∷ []
 
--- "The order is 1 to 5."
+-- "The order is 1 to 5."; `FileFits` says that the lent file has the file's length
 unfoldable pub write_tests : Frame → Type 0 → List Test
-write_tests f Allowed =
+write_tests f FileFits =
     unless (SidesAllowed f) (row 1 0)
     ∷ unless (f.phase ≤ 3) (row 2 0)
     ∷ unless (length f.samples ≡ f.height * f.width) (row 3 0)
-    ∷ unless Allowed (row 4 0)
+    ∷ unless FileFits (row 4 0)
     ∷ each 0 (λ z. z ≤ 1023) f.samples 5
     ∷ []
 

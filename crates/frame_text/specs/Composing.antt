@@ -86,7 +86,7 @@ pub clamp_allowed : (plane filled : ℕ) → filled ≡ plane → clamp_answer p
 unfolding clamp_answer in_order
 clamp_allowed plane filled same = rw (eqb_yes same)
 
--- nor does the curve refuse a clamped highest_sample plane
+-- nor does the curve refuse a clamped plane
 pub curve_allowed : (plane : List ℤ) (filled : ℕ) → filled ≡ length plane → curve_answer (clamped highest_sample plane) filled ≡ no_refusal
 curve_allowed plane filled same =
     equal_lengths (clamped highest_sample plane) filled (same ∙ sym (length_clamped_list plane)) ∙ clamped_passes plane

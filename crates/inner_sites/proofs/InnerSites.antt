@@ -140,7 +140,7 @@ module _ (off : ℕ) (fits : Fits w64 off) (κs : Lfts 1) (h x down up : ℕ) wh
   never_reflected asked i inner near = asked.1.4 (inner_off _ _ inner near)
 
 -- ---- at the constants by which the stages call them: how far from the row that a stage hands over the site may stand for
--- which it reads there. First hands over the row two below its own
+-- which it reads there. First hands over the row two below its own, and its top line the row itself
 
 -- row y is read for a row i that is far from both edges, d rows away or less: for the row `below` rows under it, at the
 -- constant off, what reflects is never asked
@@ -156,6 +156,7 @@ pub record StagesNeverReflect : Type 0 where
   pub enhance : NeverReflects ENHANCE_OFF 0 finals_off
   pub second : NeverReflects SECOND_OFF 0 greens_off
   pub first : NeverReflects FIRST_OFF 2 (trials_off reach)
+  pub tops : NeverReflects FIRST_OFF 0 (trials_off reach)
 
 never_at : (off below d : ℕ) → d + below ≤ off → NeverReflects off below d
 never_at off below d few fits κs h y down up asked i inner near =
@@ -171,4 +172,5 @@ stages_never_reflect =
       enhance = never_at ENHANCE_OFF 0 finals_off (omega arith);
       second = never_at SECOND_OFF 0 greens_off (omega arith);
       first = never_at FIRST_OFF 2 (trials_off reach) (omega arith);
+      tops = never_at FIRST_OFF 0 (trials_off reach) (omega arith);
     }
