@@ -45,7 +45,7 @@ build/proved/libbayer_c.a: need-rt
 build/lib/libbayer.so: build/proved/libbayer_c.a include/bayer.h $(wildcard library/*)
 	@library/build
 
-install: build/lib/libbayer.so
+install: need-rt need-gcc build/lib/libbayer.so
 	@library/install "$(abspath $(PREFIX))"
 
 lib-check: lib
