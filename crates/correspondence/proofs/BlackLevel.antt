@@ -81,7 +81,7 @@ module _ (given : Given) (a : Admitted given.frame) (none : NoneBelow given.blac
 
 -- ---- the range
 
-range_less_black : (T b : ℕ) (v : ℤ) → Ranged (2 * T) (3 * T) v
+pub range_less_black : (T b : ℕ) (v : ℤ) → Ranged (2 * T) (3 * T) v
     → ((neg_ℤ (pos (2 * T)) -ℤ pos b) ≤ℤ less_black b v) × (less_black b v ≤ℤ (pos (3 * T) -ℤ pos b))
 unfolding less_black
 range_less_black T b v = rw (as_difference v) (simp to_naturals (omega arith))

@@ -62,14 +62,14 @@ mean_last v d = mean_pairs (swapped (rotated (rotated v))) (swapped (rotated (ro
 
 -- ---- the changes of a frame
 
-mean_directions : (g : Change) (v : FourDirections ℤ) (d : FourDirections ℕ)
+pub mean_directions : (g : Change) (v : FourDirections ℤ) (d : FourDirections ℕ)
     → weighted_mean (act_directions g v) (act_directions g d) ≡ weighted_mean v d
 mean_directions left_right v d = mean_swapped v d
 mean_directions top_bottom v d = mean_last v d
 mean_directions transposing v d = mean_pairs v d
 mean_directions trading v d = refl
 
-mean_corners : (g : Change) (v : FourDirections ℤ) (d : FourDirections ℕ)
+pub mean_corners : (g : Change) (v : FourDirections ℤ) (d : FourDirections ℕ)
     → weighted_mean (act_corners g v) (act_corners g d) ≡ weighted_mean v d
 mean_corners left_right v d = mean_swapped (act_directions top_bottom v) (act_directions top_bottom d) ∙ mean_last v d
 mean_corners top_bottom v d = mean_pairs v d

@@ -1,6 +1,8 @@
 // The text that the program prints, put together piece by piece. Not by `write!`, whose contract leaves open whether the text fits.
 #![tactic(auto)]
 
+pub mod lent;
+
 ghost use Rattle.std.specs.Prelude.{◌≡◌, [], ◌∷◌, ◌++◌, ◌+◌, ◌≤◌, length};
 ghost use Rattle.printing.specs.Printing.{decimal, numbers_line, refusal_text};
 
@@ -52,16 +54,21 @@ pub fn site_line<const CAP: usize>(
     numbers_line(text, &[row, column, red, green, blue]);
 }
 
-// The text of a refusal: the word, number and place.
+// The text of a refusal behind a text with room for 64 bytes: the word, number and place.
 #[tactic(auto, using(crate::specs::Lines::refusal_line_short), unfolding(printing::specs::Printing::refused_word, printing::specs::Printing::refusal_text))]
+pub fn refusal_line<const CAP: usize>(text: &mut ArrayString<CAP>, why: Refusal)
+    requires { length text.old.bytes + 64 ≤ CAP }
+    ensures { text.new.bytes ≡ text.old.bytes ++ refusal_text why }
+{
+    text.push_str("refused ");
+    numbers_line(text, &[answers::number_of(why), answers::place_of(why)]);
+}
+
+// The text of a refusal.
 pub fn refusal(why: Refusal) -> Text
     ensures { result.bytes ≡ refusal_text why }
 {
     let mut text = Text::new();
-    text.push_str("refused ");
-    numbers_line(
-        &mut text,
-        &[answers::number_of(why), answers::place_of(why)],
-    );
+    refusal_line(&mut text, why);
     text
 }

@@ -6,8 +6,8 @@ use Rattle.frame_text.specs.PlanesText.{toned_clamped}
 use Rattle.frame_text.specs.Developed.{Left, wide, same_lengths, done_text}
 use Rattle.frame_text.proofs.developed_text.Goals as goal
 
-pub invariant_of-planes_text : goal.invariant_of-planes_text
-invariant_of-planes_text c =
+pub invariant_of-planes : goal.invariant_of-planes
+invariant_of-planes c =
     let left : Left (frame c.args.shape c.args.mosaic.now) _ _ _ = record { leaves = c.develop.ensures; done = c.in_ok-develop.was } in
     let same = same_lengths left c.args.tone in
     record {

@@ -1,7 +1,7 @@
 -- `frame_text::file_text` meets its contract. Assumes nothing.
 use Rattle.std.proofs.Common.{subst, rules, refl}
 use Rattle.std.proofs.Math.Nat.{sub-zero}
-use Rattle.frame_text.specs.Composes.{Composes}
+use Rattle.frame_text.specs.Composes.{ComposesInto}
 use Rattle.frame_text.specs.Reads.{few, refusal_printed, frame_printed}
 use Rattle.frame_text.proofs.file_text.Goals as goal
 
@@ -22,6 +22,6 @@ developed_text-requires c = search (rules, few)
 
 pub returns : goal.returns
 returns c =
-    subst (Composes c.developed_text.result)
+    subst (ComposesInto c.developed_text.result c.developed_text.new.text)
     (simp sub-zero at (frame_printed _ _ refl c.args.tone _ _ c.in_ok-shape.ensures.answered c.in_ok-shape.ensures.samples_left))
     c.developed_text.ensures
