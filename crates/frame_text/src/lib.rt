@@ -164,5 +164,7 @@ pub fn compose_into(file: &[u8], tone: Tone, buffer: &mut [u8]) -> usize
     if buffer.len() < ROOM {
         return 0;
     }
-    text::lent::bytes(buffer, 0, compose(file, tone).as_str().as_bytes())
+    let mut text = Text::new();
+    compose_to(&mut text, file, tone);
+    text::lent::bytes(buffer, 0, text.as_str().as_bytes())
 }

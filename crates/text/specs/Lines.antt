@@ -87,10 +87,3 @@ pub refusal_line_short : (n p : ℕ) → n < 18446744073709551616 → p < 184467
 unfolding numbers_line
 refusal_line_short n p hn hp =
     simp length-append (omega (arith, digits_64 n hn, digits_64 p hp))
-
--- the line of a site, with five numbers of 64 bits, has at most 105
-pub site_line_64 : (i j r g b : ℕ) → i < 18446744073709551616 → j < 18446744073709551616 → r < 18446744073709551616
-    → g < 18446744073709551616 → b < 18446744073709551616 → length (numbers_line (i ∷ j ∷ r ∷ g ∷ b ∷ [])) ≤ 105
-unfolding numbers_line
-site_line_64 i j r g b hi hj hr hg hb =
-    simp length-append (omega (arith, digits_64 i hi, digits_64 j hj, digits_64 r hr, digits_64 g hg, digits_64 b hb))

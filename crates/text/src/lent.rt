@@ -5,14 +5,7 @@ ghost use Rattle.printing.specs.Printing.{decimal, numbers_line, refusal_text};
 ghost use Rattle.text.specs.Put.{Put};
 
 use answers::Refusal;
-use arrayvec::ArrayString;
 use itoa::Buffer;
-
-// The most bytes of a line of five numbers of 64 bits.
-const LINE_ROOM: usize = 105;
-
-// The most bytes of the text of a refusal.
-const REFUSAL_ROOM: usize = 64;
 
 // One byte.
 pub fn byte(text: &mut [u8], at: usize, value: u8) -> usize
@@ -52,7 +45,6 @@ pub fn number_then(text: &mut [u8], at: usize, n: usize, end: u8) -> usize
 }
 
 // The line of a site: row, column and the three colours.
-#[tactic(auto, using(crate::specs::Lines::site_line_64))]
 pub fn site_line(
     text: &mut [u8],
     at: usize,
@@ -65,9 +57,11 @@ pub fn site_line(
     requires { at + length (numbers_line (row ∷ column ∷ red ∷ green ∷ blue ∷ [])) ≤ length text.old }
     ensures { Put text.old at (numbers_line (row ∷ column ∷ red ∷ green ∷ blue ∷ [])) text.new result }
 {
-    let mut line = ArrayString::<LINE_ROOM>::new();
-    super::site_line(&mut line, row, column, red, green, blue);
-    bytes(text, at, line.as_str().as_bytes())
+    let after_row = number_then(text, at, row, b' ');
+    let after_column = number_then(text, after_row, column, b' ');
+    let after_red = number_then(text, after_column, red, b' ');
+    let after_green = number_then(text, after_red, green, b' ');
+    number_then(text, after_green, blue, b'\n')
 }
 
 // The text of a refusal, at the front of a buffer of 64 bytes or more.
@@ -75,7 +69,7 @@ pub fn refusal(text: &mut [u8], why: Refusal) -> usize
     requires { 64 ≤ length text.old }
     ensures { Put text.old 0 (refusal_text why) text.new result }
 {
-    let mut line = ArrayString::<REFUSAL_ROOM>::new();
-    super::refusal_line(&mut line, why);
-    bytes(text, 0, line.as_str().as_bytes())
+    let after_word = bytes(text, 0, b"refused ");
+    let after_number = number_then(text, after_word, answers::number_of(why), b' ');
+    number_then(text, after_number, answers::place_of(why), b'\n')
 }
